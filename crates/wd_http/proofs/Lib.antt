@@ -1,0 +1,12 @@
+pub mod BlockLemmas
+pub mod BodyLemmas
+pub mod BytesListLemmas
+pub mod EntryLemmas
+pub mod FilesLemmas
+pub mod FrameLemmas
+pub mod FramerLemmas
+pub mod HeadLemmas
+pub mod HeardLemmas
+pub mod KeptLemmas
+pub mod SeenLemmas
+pub mod UniqueLemmas

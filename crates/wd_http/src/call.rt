@@ -1,0 +1,6 @@
+/// A call on a connection that can fail.
+#[derive(Clone, Copy, Debug, PartialEq, Eq)]
+pub enum Call {
+    Read,
+    Write,
+}
