@@ -1,0 +1,10 @@
+pub mod Walk
+pub mod Fits
+pub mod Rows
+pub mod Names
+pub mod Built
+pub mod Answer
+pub mod Scalars
+pub mod Spelled
+pub mod Back
+pub mod Joined

@@ -1,0 +1,6 @@
+pub mod Table
+pub mod Path
+pub mod Route
+pub mod Spelling
+pub mod Commands
+pub mod Routes
