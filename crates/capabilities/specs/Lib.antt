@@ -1,0 +1,9 @@
+pub mod Values
+pub mod Strategy
+pub mod Behaviour
+pub mod Timeouts
+pub mod Table
+pub mod Form
+pub mod Choice
+pub mod Processed
+pub mod Echo
