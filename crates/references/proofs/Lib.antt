@@ -1,0 +1,6 @@
+pub mod IdentifierText
+pub mod Issuing
+pub mod Finding
+pub mod References
+pub mod Counting
+pub mod AllHanded

@@ -1,0 +1,6 @@
+pub mod Identifier
+pub mod Series
+pub mod Handed
+pub mod Issued
+pub mod Laws
+pub mod HandedAll
