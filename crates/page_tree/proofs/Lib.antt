@@ -1,0 +1,14 @@
+pub mod AttributeLemmas
+pub mod Chains
+pub mod Counts
+pub mod Hosting
+pub mod Moves
+pub mod NodeKinds
+pub mod Nodes
+pub mod Orders
+pub mod Paths
+pub mod Ranges
+pub mod Reach
+pub mod RowLemmas
+pub mod Shadows
+pub mod Trees

@@ -1,0 +1,6 @@
+pub mod Attributes
+pub mod Places
+pub mod Rows
+pub mod DocumentState
+pub mod Faults
+pub mod Inside

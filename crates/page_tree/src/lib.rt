@@ -1,0 +1,20 @@
+//! The tree of a page: its elements, texts and shadow roots, where each stands and what it is. A
+//! `Document` stands for its rows, by node number: the parents, the children, the shadow roots and
+//! the contents. Every notion of place (path, document order, connectedness, depth) is defined over
+//! these rows alone. The body is one list of nodes, each with its own list of children.
+#![tactic(auto)]
+
+mod ancestors;
+mod attributes;
+mod content;
+mod document;
+mod edits;
+mod fault;
+mod node;
+mod order;
+
+pub use document::Document;
+pub use fault::TreeFault;
+
+#[cfg(test)]
+mod tests;

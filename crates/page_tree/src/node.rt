@@ -1,0 +1,45 @@
+ghost use Rattle.std.specs.Prelude.{◌≡◌};
+ghost use Rattle.page_tree.specs.Places.{up_of, kids_of, shadow_of};
+ghost use Rattle.page_tree.specs.Inside.{ups_of, kids_lists, shadows_of};
+
+use crate::content::Content;
+use wd_json::NodeId;
+
+/// A node with its parent, its children and its shadow root.
+#[derive(Drop)]
+pub struct Node {
+    pub up: Option<NodeId>,
+    pub kids: Vec<NodeId>,
+    pub shadow: Option<NodeId>,
+    pub content: Content,
+}
+
+/// The parent of a node; that of a shadow root is its host.
+pub fn parent(nodes: &[Node], node: NodeId) -> Option<NodeId>
+    ensures { result ≡ up_of (ups_of nodes.now) node }
+{
+    match nodes.get(node.index()) {
+        Some(n) => n.up,
+        None => None,
+    }
+}
+
+/// The children of a node, in order.
+pub fn kids(nodes: &[Node], node: NodeId) -> &[NodeId]
+    ensures { result.now ≡ kids_of (kids_lists nodes.now) node }
+{
+    match nodes.get(node.index()) {
+        Some(n) => n.kids.as_slice(),
+        None => &[],
+    }
+}
+
+/// The shadow root of a node.
+pub fn shadow(nodes: &[Node], node: NodeId) -> Option<NodeId>
+    ensures { result ≡ shadow_of (shadows_of nodes.now) node }
+{
+    match nodes.get(node.index()) {
+        Some(n) => n.shadow,
+        None => None,
+    }
+}
