@@ -1,0 +1,5 @@
+pub mod Kinds
+pub mod Table
+pub mod Refusals
+pub mod Body
+pub mod Parameters
