@@ -1,0 +1,9 @@
+pub mod CheckLemmas
+pub mod CodeLemmas
+pub mod LookupLemmas
+pub mod OpeningLemmas
+pub mod PageLemmas
+pub mod RunAtLemmas
+pub mod RunLemmas
+pub mod SessionLemmas
+pub mod StepLemmas

@@ -1,0 +1,46 @@
+-- A session that is opened.
+use Rattle.std.proofs.Common.{◌≡◌, ◌∙◌, ◌+◌, ◌++◌, ℕ, zero, suc, List, [], ◌∷◌, Option, Ok, ap, sym, subst, refl, arith}
+use Rattle.std.specs.List.{All}
+use Rattle.std.proofs.lemmas.List.Elements.{All-append}
+use Rattle.capabilities.specs.Processed.{processed}
+use Rattle.capabilities.specs.Timeouts.{AreInRange}
+use Rattle.capabilities.specs.declared.matched.Matched.{Matched}
+use Rattle.wd_json.specs.declared.json.Json.{Json}
+use Rattle.remote_end.specs.declared.reply.Reply.{Reply}
+use Rattle.remote_end.specs.declared.session.Session.{Session}
+use Rattle.remote_end.specs.Setting.{Setting}
+use Rattle.remote_end.specs.State.{State, Opens, IsWhole}
+use Rattle.remote_end.specs.Plan.{at_once}
+use Rattle.remote_end.specs.Replies.{success}
+use Rattle.remote_end.specs.Opening.{opened, session_value}
+use Rattle.remote_end.specs.Rows.{new_session}
+use Rattle.remote_end.specs.Step.{EndsWith}
+
+module _ (setting : Setting) (next : ℕ) (matched : Matched) (reading : ℕ) (session : Session) (is : session ≡ opened setting next matched reading) where
+  pub in_range : AreInRange matched.timeouts → AreInRange session.matched.timeouts
+  in_range h = let P : Session → Type 0 = λ s. AreInRange s.matched.timeouts in subst P (sym is) h
+
+  pub is_whole : IsWhole session
+  is_whole = let whole : IsWhole (opened setting next matched reading) = record { known = refl; page = refl } in subst IsWhole (sym is) whole
+
+  pub opens : (old new : List Session) (parameters : Json) (value : Json) (reply : Reply)
+      → processed setting.name parameters ≡ Ok matched → value ≡ session_value setting session → reply ≡ success value → new ≡ old ++ session ∷ []
+      → (named : Option (List ℕ))
+      → EndsWith (new_session setting (record { next = next; sessions = old }) reading (processed setting.name parameters))
+      (record { next = next; sessions = old }) named (record { next = next + 1; sessions = new }) reply
+  opens old new parameters value reply matches value_is reply_is new_is named =
+      let s : Session = opened setting next matched reading in
+      let before : State = record { next = next; sessions = old } in
+      record {
+        after = Opens s;
+        turn_is = ap (new_session setting before reading) matches
+            ∙ ap (λ (r : Reply). at_once r (Opens s)) (sym (reply_is ∙ ap success (value_is ∙ ap (session_value setting) is)));
+        new_is = ap (λ (xs : List Session). let t : State = record { next = next + 1; sessions = xs } in t) (new_is ∙ ap (λ (t : Session). old ++ t ∷ []) is);
+      }
+
+all_one : (P : Session → Type 0) (s : Session) → P s → All P (s ∷ [])
+all_one P s p zero d h = p
+all_one P s p (suc k) d h = absurd (omega arith)
+
+pub all_more : (P : Session → Type 0) (old new : List Session) (s : Session) → new ≡ old ++ s ∷ [] → P s → All P old → All P new
+all_more P old new s e p all = let Q : List Session → Type 0 = All P in subst Q (sym e) (All-append P old (s ∷ []) all (all_one P s p))

@@ -1,0 +1,17 @@
+pub mod Setting
+pub mod State
+pub mod Moments
+pub mod Plan
+pub mod Values
+pub mod Replies
+pub mod Parameters
+pub mod Meaning
+pub mod BuiltIn
+pub mod Elements
+pub mod Opening
+pub mod Rows
+pub mod Step
+pub mod Machine
+pub mod Laws
+pub mod Standing
+pub mod Runs

@@ -1,0 +1,77 @@
+-- What the command machine keeps between requests, and what a command leaves of it.
+use Rattle.std.specs.Prelude.{◌≡◌, ℕ, ◌+◌, ◌^◌, ◌||◌, not, nat_lt, List, [], ◌∷◌, ◌++◌, Bool, false, Option, Some, None, length, slice_get, slice_set}
+use Rattle.std.specs.List.{position, remove}
+use Rattle.std.specs.Str.{encode_utf8_all}
+use Rattle.references.specs.Identifier.{is_text_of}
+use Rattle.remote_end.specs.declared.session.Session.{Session}
+
+-- the number of the next session, and the open sessions in the order in which they were opened
+pub record State : Type 0 where
+  pub next : ℕ
+  pub sessions : List Session
+
+-- before the first session
+abbrev pub first_state : State
+first_state = record { next = 1; sessions = [] }
+
+-- the most sessions that are open together
+abbrev pub session_limit : ℕ
+session_limit = 8
+
+-- the number after the last session's
+abbrev pub number_limit : ℕ
+number_limit = 2 ^ 30
+
+-- no further session can be opened
+abbrev pub is_full : State → Bool
+is_full state = not (nat_lt (length state.sessions) session_limit) || not (nat_lt state.next number_limit)
+
+-- the session with the identifier of this text
+abbrev pub has_identifier : List ℕ → Session → Bool
+has_identifier text s = is_text_of s.id (encode_utf8_all text)
+
+-- where the session with that identifier stands among the open ones; None where it isn't open
+abbrev pub place_of : List ℕ → List Session → Option ℕ
+place_of text sessions = position (has_identifier text) sessions
+
+abbrev pub own_place : Option (List ℕ) → List Session → Option ℕ
+own_place None sessions = None
+own_place (Some text) sessions = place_of text sessions
+
+abbrev pub at_place : List Session → Option ℕ → Option Session
+at_place sessions None = None
+at_place sessions (Some i) = slice_get sessions i
+
+-- the open session that a request names
+abbrev pub session_named : Option (List ℕ) → List Session → Option Session
+session_named text sessions = at_place sessions (own_place text sessions)
+
+-- What a command leaves of sessions: none is touched, its own stands so, its own has ended, or one more is
+-- open. So a command changes no session but its own.
+pub data After : Type 0 where
+  Same : After
+  Leaves : Session → After
+  Ends : After
+  Opens : Session → After
+
+abbrev pub set_at : List Session → Option ℕ → Session → List Session
+set_at sessions None s = sessions
+set_at sessions (Some i) s = slice_set sessions i s
+
+abbrev pub without_at : List Session → Option ℕ → List Session
+without_at sessions None = sessions
+without_at sessions (Some i) = remove sessions i
+
+-- the state after a command that names this session, or none
+abbrev pub changed : State → Option (List ℕ) → After → State
+changed state own Same = state
+changed state own (Leaves s) = record state { sessions = set_at state.sessions (own_place own state.sessions) s }
+changed state own Ends = record state { sessions = without_at state.sessions (own_place own state.sessions) }
+changed state own (Opens s) = record { next = state.next + 1; sessions = state.sessions ++ s ∷ [] }
+
+-- ---- for private clauses
+
+-- no call on what it keeps has wanted memory
+pub record IsWhole (s : Session) : Type 0 where
+  pub known : s.known.spent ≡ false
+  pub page : s.page.spent ≡ false

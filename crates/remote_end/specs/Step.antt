@@ -1,0 +1,93 @@
+-- One step of the command machine.
+use Rattle.std.specs.Prelude.{◌≡◌, ◌≤◌, ℕ, max, List, [], ◌∷◌, ◌++◌, Option, Some, None, Result, Ok, Err, slice_get, slice_set}
+use Rattle.std.specs.List.{remove}
+use Rattle.wd_errors.specs.declared.code.Code.{Code}
+use Rattle.wd_http.specs.declared.request.Request.{Request}
+use Rattle.remote_end.specs.declared.reply.Reply.{Reply}
+use Rattle.remote_end.specs.declared.order.Order.{Order}
+use Rattle.remote_end.specs.declared.session.Session.{Session}
+use Rattle.remote_end.specs.Setting.{Setting}
+use Rattle.remote_end.specs.State.{State, After, Same, Leaves, Ends, Opens, session_named, changed}
+use Rattle.remote_end.specs.Plan.{Stage, Plan, Turn, Done, Asks, at_once}
+use Rattle.remote_end.specs.Moments.{start_of, next_after}
+use Rattle.remote_end.specs.Replies.{failure}
+use Rattle.remote_end.specs.Meaning.{Means}
+use Rattle.remote_end.specs.Rows.{turn_of, turn_in, at_start}
+
+-- A call of the outside: a reading of the clock, the answer to a script, or a rest that asked for a moment
+-- and what the clock then read.
+pub data Call : Type 0 where
+  Now : ℕ → Call
+  Script : ℕ → ℕ → Call
+  Rest : ℕ → ℕ → Call
+
+-- the plan of a turn, over the script call that it makes, if it makes one
+abbrev pub Plays : Turn → List Call → Plan → Type 0
+Plays (Done p) calls plan = (calls ≡ []) × (plan ≡ p)
+Plays (Asks script after) calls plan = (answer : ℕ) × (calls ≡ Script script answer ∷ []) × (plan ≡ after answer)
+
+-- a rest is made exactly while there is a later next moment; it asks for that moment
+abbrev pub Rests : List Stage → ℕ → List Call → Type 0
+Rests stages reached [] = next_after stages reached ≡ None
+Rests stages reached (Rest asked answer ∷ calls) =
+    (next_after stages reached ≡ Some asked) × (asked ≤ answer) × Rests stages (max reached answer) calls
+Rests stages reached (Now answer ∷ calls) = ⊥
+Rests stages reached (Script asked answer ∷ calls) = ⊥
+
+-- what a request does that is begun with a reading
+abbrev pub turn_for : Setting → State → Result Order Code → ℕ → Turn
+turn_for setting state (Ok order) reading = turn_of setting state order reading
+turn_for setting state (Err code) reading = at_once (failure code) Same
+
+-- the session that a command names
+abbrev pub own : Result Order Code → Option (List ℕ)
+own (Ok order) = order.route.session
+own (Err code) = None
+
+-- A request is answered: it is read as a command or refused, the clock is read once, the command's script is
+-- answered and its rests are made, and the reply and the next state are those of its plan.
+pub record Step (setting : Setting) (old : State) (request : Request) (calls : List Call) (reply : Reply) (new : State) : Type 0 where
+  pub meaning : Result Order Code
+  pub means : Means old request meaning
+  pub reading : ℕ
+  pub asked : List Call
+  pub rests : List Call
+  pub plan : Plan
+  pub calls_are : calls ≡ Now reading ∷ asked ++ rests
+  pub plays : Plays (turn_for setting old meaning reading) asked plan
+  pub waits : Rests plan.stages (start_of (session_named (own meaning) old.sessions) reading) rests
+  pub reply_is : reply ≡ plan.reply
+  pub new_is : new ≡ changed old (own meaning) plan.after
+
+-- no proof above opens a step
+unfoldable pub Steps : Setting → State → Request → List Call → Reply → State → Type 0
+Steps setting old request calls reply new = Step setting old request calls reply new
+
+-- ---- for private clauses
+
+-- a turn that ends at once, with this reply, and what it leaves of sessions
+pub record EndsWith (turn : Turn) (old : State) (named : Option (List ℕ)) (new : State) (reply : Reply) : Type 0 where
+  pub after : After
+  pub turn_is : turn ≡ at_once reply after
+  pub new_is : new ≡ changed old named after
+
+-- the part of a step that makes one call: the request, begun with a reading, has this reply at once
+pub record RepliesAt (setting : Setting) (old : State) (request : Request) (reading : ℕ) (new : State) (reply : Reply) : Type 0 where
+  pub meaning : Result Order Code
+  pub means : Means old request meaning
+  pub ends : EndsWith (turn_for setting old meaning reading) old (own meaning) new reply
+
+-- the open sessions after a command of the one at that place
+abbrev pub AreLeft : List Session → ℕ → List Session → After → Type 0
+AreLeft old place new Same = new ≡ old
+AreLeft old place new (Leaves s) = new ≡ slice_set old place s
+AreLeft old place new Ends = new ≡ remove old place
+AreLeft old place new (Opens s) = ⊥
+
+-- a command of the session at that place ends at once
+pub record RunsAt (order : Order) (reading : ℕ) (old : List Session) (place : ℕ) (new : List Session) (reply : Reply) : Type 0 where
+  pub session : Session
+  pub here : slice_get old place ≡ Some session
+  pub after : After
+  pub turn_is : turn_in order (at_start session reading) order.route.command ≡ at_once reply after
+  pub left : AreLeft old place new after

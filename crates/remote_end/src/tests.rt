@@ -1,0 +1,122 @@
+use crate::{Evaluator, Remote, Site};
+use std::alloc::Global;
+use std::process::Abort;
+use std::test::Fail;
+use wd_http::{Request, VirtualClock};
+use wd_json::{WdBytes, WdText, write};
+
+#[derive(Drop)]
+struct NoScripts;
+
+impl Evaluator for NoScripts {}
+
+/// A remote end of run 1.
+fn remote(alloc: Global, name: &str) -> Result<Remote, Fail> {
+    Ok(Remote::new(alloc, Site::built_in(alloc)?, WdText::of(alloc, name)?, 1)?)
+}
+
+fn request(alloc: Global, method: &str, target: &str, body: &str) -> Result<Request, Fail> {
+    Ok(Request {
+        method: WdText::of(alloc, method)?,
+        target: WdText::of(alloc, target)?,
+        close: false,
+        body: WdBytes::of(alloc, body.as_bytes())?,
+    })
+}
+
+/// Answers a request, and compares the reply.
+fn asked(
+    rt: &impl Abort,
+    alloc: Global,
+    remote: &mut Remote,
+    ask: (&str, &str, &str),
+    status: u16,
+    body: &str,
+) -> Result<(), Fail> {
+    let request = request(alloc, ask.0, ask.1, ask.2)?;
+    assert!(rt; !remote.spent());
+    let reply = remote.answer(&request, &mut VirtualClock::new(), &mut NoScripts)?;
+    assert_eq!(rt; reply.status, status);
+    let text = write(alloc, &reply.body)?;
+    assert_eq!(rt; text.as_slice(), body.as_bytes());
+    Ok(())
+}
+
+#[test]
+fn an_element_is_found_and_named(rt: HostRuntime) -> Result<(), Fail> {
+    let alloc = rt.alloc();
+    let mut remote = remote(alloc, "wdpage")?;
+    let session = "/session/00000000-0001-8000-8000-000100000000";
+    let find = "/session/00000000-0001-8000-8000-000100000000/element";
+    let name =
+        "/session/00000000-0001-8000-8000-000100000000/element/00000000-0001-8002-8000-000100000002/name";
+    let steps: [((&str, &str, &str), u16, &str); 9] = [
+        (
+            ("POST", "/session", r#"{"capabilities":{}}"#),
+            200,
+            r#"{"value":{"capabilities":{"acceptInsecureCerts":false,"browserName":"wdpage","browserVersion":"1.0","pageLoadStrategy":"normal","platformName":"linux","proxy":{},"setWindowRect":true,"strictFileInteractability":false,"timeouts":{"implicit":0,"pageLoad":300000,"script":30000},"unhandledPromptBehavior":"dismiss and notify"},"sessionId":"00000000-0001-8000-8000-000100000000"}}"#,
+        ),
+        (
+            ("POST", find, r#"{"using":"tag name","value":"a"}"#),
+            200,
+            r#"{"value":{"element-6066-11e4-a52e-4f735466cecf":"00000000-0001-8002-8000-000100000002"}}"#,
+        ),
+        (
+            ("POST", find, r#"{"using":"tag name","value":"A"}"#),
+            200,
+            r#"{"value":{"element-6066-11e4-a52e-4f735466cecf":"00000000-0001-8002-8000-000100000002"}}"#,
+        ),
+        (("GET", name, ""), 200, r#"{"value":"a"}"#),
+        (
+            ("POST", find, r#"{"using":"tag name","value":"table"}"#),
+            404,
+            r#"{"value":{"error":"no such element","message":"no such element","stacktrace":""}}"#,
+        ),
+        (
+            ("POST", find, r#"{"using":"xpath","value":"a"}"#),
+            500,
+            r#"{"value":{"error":"unsupported operation","message":"unsupported operation","stacktrace":""}}"#,
+        ),
+        (
+            ("POST", find, r#"{"using":"id","value":"a"}"#),
+            400,
+            r#"{"value":{"error":"invalid argument","message":"invalid argument","stacktrace":""}}"#,
+        ),
+        (("DELETE", session, ""), 200, r#"{"value":null}"#),
+        (
+            ("GET", name, ""),
+            404,
+            r#"{"value":{"error":"invalid session id","message":"invalid session id","stacktrace":""}}"#,
+        ),
+    ];
+    for (ask, status, body) in steps {
+        asked(&rt, alloc, &mut remote, ask, status, body)?;
+    }
+    Ok(())
+}
+
+#[test]
+fn nine_sessions_are_too_many(rt: HostRuntime) -> Result<(), Fail> {
+    let alloc = rt.alloc();
+    let mut remote = remote(alloc, "x")?;
+    for open in 0..8 {
+        assert!(rt; !remote.spent());
+        assert_eq!(rt; remote.sessions(), open);
+        let request = request(alloc, "POST", "/session", r#"{"capabilities":{}}"#)?;
+        let reply = remote.answer(&request, &mut VirtualClock::new(), &mut NoScripts)?;
+        assert_eq!(rt; reply.status, 200);
+    }
+    let refused =
+        r#"{"value":{"error":"session not created","message":"session not created","stacktrace":""}}"#;
+    let full = r#"{"value":{"message":"session limit reached","ready":false}}"#;
+    asked(
+        &rt,
+        alloc,
+        &mut remote,
+        ("POST", "/session", "{}"),
+        500,
+        refused,
+    )?;
+    asked(&rt, alloc, &mut remote, ("GET", "/status", ""), 200, full)?;
+    Ok(())
+}
