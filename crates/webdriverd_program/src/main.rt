@@ -1,0 +1,66 @@
+//! The program: it makes the real line, clock and sink, and calls the server.
+#![tactic(auto)]
+
+use std::alloc::Global;
+use std::process::ExitCode;
+use std::{env, io};
+use wd_http::{Line, Sink, VirtualClock};
+use wd_json::WdText;
+use webdriverd::{NoFiles, NoScripts, PipeLine, StreamSink, webdriverd};
+
+/// The words of the command line, without the program's name; none where one of them is no text.
+fn words_of(rt: &HostRuntime) -> io::Result<Vec<WdText>> {
+    let alloc = rt.alloc();
+    let mut words = Vec::new(alloc);
+    let Ok(args) = env::args(rt) else {
+        return Ok(words);
+    };
+    for word in args.skip(1) {
+        match WdText::of(alloc, word.as_str()) {
+            Ok(text) => words.push(text)?,
+            Err(_) => return Err(io::ErrorKind::OutOfMemory.into()),
+        }
+    }
+    Ok(words)
+}
+
+/// Runs the server with this line and this sink.
+fn run<L: Line, K: Sink>(alloc: Global, words: &[WdText], line: &mut L, out: &mut K) -> ExitCode {
+    let ended = webdriverd(
+        alloc,
+        words,
+        1,
+        &mut NoFiles::new(),
+        line,
+        &mut VirtualClock::new(),
+        &mut NoScripts,
+        out,
+    );
+    ExitCode::from(ended.status)
+}
+
+fn main(rt: HostRuntime) -> ExitCode {
+    let Ok(words) = words_of(&rt) else {
+        return ExitCode::from(6);
+    };
+    let mut line = PipeLine::new(rt.stdin(), rt.stdout());
+    let is_pipe = match words.first() {
+        Some(word) => word.as_str() == "pipe",
+        None => false,
+    };
+    if is_pipe {
+        run(
+            rt.alloc(),
+            &words,
+            &mut line,
+            &mut StreamSink::new(rt.stderr()),
+        )
+    } else {
+        run(
+            rt.alloc(),
+            &words,
+            &mut line,
+            &mut StreamSink::new(rt.stdout()),
+        )
+    }
+}
