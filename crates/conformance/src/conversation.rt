@@ -1,0 +1,78 @@
+use std::alloc::Global;
+use std::process::Abort;
+use std::test::Fail;
+use wd_http::{BytesList, CallList, ListClock, MemoryLine, MemorySink, TimeList};
+use wd_json::{WdBytes, WdText};
+use webdriverd::{NoFiles, NoScripts, webdriverd};
+
+/// What a run of the server left: its status, the bytes that were sent on the connections in order, how many
+/// readings were taken, and what was printed.
+#[derive(Drop)]
+pub struct Outcome {
+    pub status: u8,
+    pub sent: Vec<u8>,
+    pub taken: usize,
+    pub printed: Vec<u8>,
+}
+
+/// Runs the server with these words on one connection on which these bytes come. A read or a write moves at
+/// most `most` bytes, and the call of the line with the number `failing` fails.
+pub fn run(
+    rt: &impl Abort,
+    alloc: Global,
+    words: &[&str],
+    bytes: &[u8],
+    most: usize,
+    failing: Option<u64>,
+) -> Result<Outcome, Fail> {
+    assert!(rt; 0 < most);
+    let mut texts = Vec::new(alloc);
+    for word in words {
+        texts.push(WdText::of(alloc, word)?)?;
+    }
+    let mut connections = BytesList::new(alloc);
+    connections.push(WdBytes::of(alloc, bytes)?)?;
+    let mut fails = CallList::new(alloc);
+    if let Some(number) = failing {
+        fails.push(number)?;
+    }
+    let mut line = MemoryLine::new(alloc, connections, fails, most);
+    let mut out = MemorySink::new(alloc, CallList::new(alloc), most);
+    let ended = webdriverd(
+        alloc,
+        &texts,
+        7,
+        &mut NoFiles::new(),
+        &mut line,
+        &mut ListClock::new(TimeList::new(alloc)),
+        &mut NoScripts,
+        &mut out,
+    );
+    let mut sent = Vec::new(alloc);
+    for place in 0..line.sent().len() {
+        sent.extend_from_slice(line.sent().at(place).as_slice())?;
+    }
+    let taken = match &ended.remote {
+        Some(remote) => {
+            assert!(rt; !remote.spent());
+            remote.taken().len()
+        }
+        None => 0,
+    };
+    Ok(Outcome {
+        status: ended.status,
+        sent,
+        taken,
+        printed: Vec::from_slice(alloc, out.written().as_slice())?,
+    })
+}
+
+/// What is sent back to these bytes, where nothing fails.
+pub fn answered(
+    rt: &impl Abort,
+    alloc: Global,
+    bytes: &[u8],
+    most: usize,
+) -> Result<Outcome, Fail> {
+    run(rt, alloc, &["pipe"], bytes, most, None)
+}
