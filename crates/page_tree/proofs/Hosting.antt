@@ -5,7 +5,7 @@ use Rattle.std.proofs.lemmas.Bool.{cases_eq, cases_lt}
 use Rattle.page_tree.specs.Places.{up_of, shadow_of, times, points_to, onwards, chain, depth, max_depth, is_root_of, is_hosted, own_up}
 use Rattle.page_tree.specs.Rows.{Rows, IsTree, hosting, shadow_root, count, max_nodes, is_shadow, is_shadow_kind}
 use Rattle.page_tree.proofs.Chains.{chain-suc, chain-zero}
-use Rattle.page_tree.proofs.NodeKinds.{kind_pushed_here, kind_pushed_other}
+use Rattle.page_tree.proofs.NodeKinds.{kind_pushed_here, kind_pushed_other, element_pushed, focus_kept}
 use Rattle.page_tree.proofs.Reach.{stable_down}
 use Rattle.page_tree.proofs.Trees.{chain_alone, up_grown, kids_grown, up_parent_within}
 
@@ -133,4 +133,5 @@ hosting_is_tree rows host tree room within free shallow = record {
   host = hosts rows host tree within free;
   roots = kinds rows host tree within free;
   shallow = short rows host tree within free shallow;
+  focused = focus_kept rows.focus rows.contents (rows.contents ++ shadow_root ∷ []) (element_pushed rows.contents shadow_root) tree.focused;
 }

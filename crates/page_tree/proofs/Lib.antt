@@ -1,6 +1,7 @@
 pub mod AttributeLemmas
 pub mod Chains
 pub mod Counts
+pub mod Heights
 pub mod Hosting
 pub mod Moves
 pub mod NodeKinds
@@ -12,3 +13,4 @@ pub mod Reach
 pub mod RowLemmas
 pub mod Shadows
 pub mod Trees
+pub mod Writes

@@ -6,23 +6,23 @@ use Rattle.page_tree.specs.Places.{up_of, kids_of, times, points_to, contains, o
 use Rattle.page_tree.proofs.Chains.{chain-suc, chain-zero, contains_first}
 use Rattle.page_tree.proofs.Paths.{walk-step, walk-none, stable_on, pointed, at_least_one}
 
-or_split : (a b : Bool) → (a || b) ≡ true → (a ≡ true) ⊎ (b ≡ true)
+pub or_split : (a b : Bool) → (a || b) ≡ true → (a ≡ true) ⊎ (b ≡ true)
 or_split true b h = inl refl
 or_split false b h = inr h
 
-or_left : (a b : Bool) → a ≡ true → (a || b) ≡ true
+pub or_left : (a b : Bool) → a ≡ true → (a || b) ≡ true
 or_left a b h = rw h refl
 
 or_right : (a b : Bool) → b ≡ true → (a || b) ≡ true
 or_right true b h = refl
 or_right false b h = h
 
-iff_same : (a b : Bool) → (a ≡ true → b ≡ true) → (b ≡ true → a ≡ true) → a ≡ b
+pub iff_same : (a b : Bool) → (a ≡ true → b ≡ true) → (b ≡ true → a ≡ true) → a ≡ b
 iff_same true b f g = sym (f refl)
 iff_same false true f g = g refl
 iff_same false false f g = refl
 
-same_number : (a b : ℕ) → eqb a b ≡ true → a ≡ b
+pub same_number : (a b : ℕ) → eqb a b ≡ true → a ≡ b
 same_number a b h = grind arith
 
 in_append : (n : ℕ) (xs ys : List ℕ) → contains n (xs ++ ys) ≡ (contains n xs || contains n ys)
@@ -47,7 +47,7 @@ flat_from f (x ∷ ks) n h = elim (or_split (contains n (f x)) (contains n (flat
   | inr later ↦ (let found = flat_from f ks n later in (found.0, or_right (eqb x found.0) (contains found.0 ks) found.1, found.2))
 ]
 
-has_times : (k : ℕ) (ks : List ℕ) → contains k ks ≡ true → 1 ≤ times k ks
+pub has_times : (k : ℕ) (ks : List ℕ) → contains k ks ≡ true → 1 ≤ times k ks
 has_times k [] h = absurd (let e : false ≡ true = h in cc)
 has_times k (x ∷ ks) h = elim (or_split (eqb x k) (contains k ks) h) [ inl here ↦ rw here (omega arith) | inr later ↦ omega (arith, has_times k ks later) ]
 
@@ -72,10 +72,10 @@ stable_down (suc s) ups n short =
     chain-suc s ups n ∙ ap (λ xs. n ∷ xs) (stable_on (chain (suc s) ups) (chain s ups) (up_of ups n) (suc s) (stable_down s ups) (omega arith)) ∙ sym (chain-suc (suc s) ups n)
 
 module _ (ups : List (Option ℕ)) (kids : List (List ℕ)) (each : (p m : ℕ) → times m (kids_of kids p) ≡ cond (points_to p (up_of ups m)) 1 0) (shallow : (n : ℕ) → length (lineage ups n) ≤ 200) where
-  kid_up : (n k : ℕ) → contains k (kids_of kids n) ≡ true → up_of ups k ≡ Some n
+  pub kid_up : (n k : ℕ) → contains k (kids_of kids n) ≡ true → up_of ups k ≡ Some n
   kid_up n k h = pointed (up_of ups k) n (at_least_one (points_to n (up_of ups k)) (times k (kids_of kids n)) (each n k) (has_times k (kids_of kids n) h))
 
-  up_kid : (n k : ℕ) → up_of ups k ≡ Some n → contains k (kids_of kids n) ≡ true
+  pub up_kid : (n k : ℕ) → up_of ups k ≡ Some n → contains k (kids_of kids n) ≡ true
   up_kid n k up = times_has k (kids_of kids n) (let e : times k (kids_of kids n) ≡ 1 = each n k ∙ rw (up, eq-eqb n n refl) refl in omega arith)
 
   in_first : (s n : ℕ) → contains n (walk (suc s) kids n) ≡ true

@@ -1,14 +1,17 @@
 -- What keeps the rows of a document a tree.
 use Rattle.std.proofs.Common.{◌≡◌, ◌≢◌, ℕ, zero, suc, ◌<◌, ◌≤◌, Bool, true, false, cond, List, [], ◌∷◌, ◌++◌, Option, Some, None, length, map, set, eq-eqb, refl, sym, ap, ◌∙◌, arith, true≢false, inl, inr, ◌⊎◌, length-set, length-append}
-use Rattle.std.specs.Prelude.{nat_le}
+use Rattle.std.specs.Prelude.{nat_le, IfSome}
 use Rattle.std.proofs.lemmas.List.{length-map, get_or-set_same, get_or-set_other, get_or_past, ext_get_or}
 use Rattle.std.proofs.lemmas.Bool.{cases_eq, cases_lt}
 use Rattle.page_tree.specs.Places.{up_of, kids_of, shadow_of, times, points_to, onwards, chain, depth, max_depth, all_shallow, without, put_among, is_root_of, is_hosted, own_up, below}
-use Rattle.page_tree.specs.Rows.{Rows, IsTree, one_node, grown, detached, moved, count, max_nodes, is_shadow, is_shadow_kind, kind_at, change_at}
+use Rattle.page_tree.specs.Rows.{Rows, IsTree, one_node, grown, detached, moved, count, max_nodes, is_shadow, is_shadow_kind, is_element, is_element_kind, is_text, kind_at, change_at, with_content, with_text}
+use Rattle.page_tree.specs.Inside.{seen}
+use Rattle.page_tree.specs.declared.geometry.Point.{Point}
 use Rattle.page_tree.specs.declared.content.Content.{Content}
+use Rattle.page_tree.specs.declared.content.Kind.TheVariants.{Text}
 use Rattle.page_tree.proofs.Chains.{chain-suc, chain-zero}
 use Rattle.page_tree.proofs.Counts.{times-without, times-put, without_absent, kids_without}
-use Rattle.page_tree.proofs.NodeKinds.{shadow_kind_pushed, kind_changed, length-change_at}
+use Rattle.page_tree.proofs.NodeKinds.{shadow_kind_pushed, kind_changed, length-change_at, shadow_kind_texted, element_kind_texted, element_pushed, focus_kept}
 use Rattle.page_tree.proofs.Ranges.{not_all}
 use Rattle.page_tree.proofs.Shadows.{chain_cut, each_below, other_parent, length-below}
 
@@ -51,6 +54,7 @@ one_is_tree content plain = record {
   host = λ p m is. absurd (no_root m p (shadow_of (None ∷ []) p) (up_alone p) is);
   roots = λ n. alone_plain content n plain ∙ sym (alone_hosted n);
   shallow = λ n. omega (arith, chain_alone 200 n (None ∷ []) (up_alone n));
+  focused = tt;
 }
 
 -- ---- one node more
@@ -96,6 +100,7 @@ grown_is_tree rows content plain tree room = record {
   host = λ p m is. up_grown rows.ups m ∙ tree.host p m (sym (up_grown rows.shadows p) ∙ is);
   roots = λ n. shadow_kind_pushed rows.contents content n plain ∙ tree.roots n ∙ sym (hosted_same (rows.ups ++ None ∷ []) rows.ups (rows.shadows ++ None ∷ []) rows.shadows n (up_grown rows.ups n) (up_grown rows.shadows));
   shallow = λ n. rw (chain_same 200 (rows.ups ++ None ∷ []) rows.ups (up_grown rows.ups) n) (tree.shallow n);
+  focused = focus_kept rows.focus rows.contents (rows.contents ++ content ∷ []) (element_pushed rows.contents content) tree.focused;
 }
 
 -- ---- a node taken out
@@ -166,6 +171,7 @@ detached_is_tree rows m tree not_top plain =
       host = host_changed rows m None vps tree plain here others;
       roots = roots_changed rows m None vps tree plain here others;
       shallow = λ n. omega (arith, chain_cut 200 rows.ups vps (up_gone_cut rows.ups m) n, tree.shallow n);
+      focused = tree.focused;
     }
 
 -- ---- a node put elsewhere
@@ -216,21 +222,51 @@ moved_is_tree rows m p place tree not_top plain m_in p_in shallow =
       host = host_changed rows m (Some p) vps tree plain here others;
       roots = roots_changed rows m (Some p) vps tree plain here others;
       shallow = shallow_at (moved rows m p place).ups shallow;
+      focused = tree.focused;
     }
 
--- ---- what a node is, changed
-pub changed_is_tree : (rows : Rows) (n : ℕ) (f : Content → Content) → ((content : Content) → (f content).kind ≡ content.kind) → IsTree rows → IsTree (record rows { contents = change_at n f rows.contents })
-changed_is_tree rows n f keeps tree = record {
+-- ---- what nodes are, changed
+relabelled_is_tree : (rows : Rows) (contents : List Content) → IsTree rows → length contents ≡ length rows.contents
+    → ((n : ℕ) → is_shadow_kind (kind_at contents n) ≡ is_shadow rows n)
+    → ((n : ℕ) → is_element_kind (kind_at contents n) ≡ is_element rows n) → IsTree (record rows { contents = contents })
+relabelled_is_tree rows contents tree same shadows elements = record {
   some = tree.some;
   few = tree.few;
   kids_of_each = tree.kids_of_each;
   shadow_of_each = tree.shadow_of_each;
-  content_of_each = length-change_at f n rows.contents ∙ tree.content_of_each;
+  content_of_each = same ∙ tree.content_of_each;
   top = tree.top;
   each = tree.each;
   host = tree.host;
-  roots = λ k. ap is_shadow_kind (kind_changed f keeps n rows.contents k) ∙ tree.roots k;
+  roots = λ k. shadows k ∙ tree.roots k;
   shallow = tree.shallow;
+  focused = focus_kept rows.focus rows.contents contents (λ n h. elements n ∙ h) tree.focused;
+}
+
+pub changed_is_tree : (rows : Rows) (n : ℕ) (f : Content → Content) → ((content : Content) → (f content).kind ≡ content.kind) → IsTree rows → IsTree (with_content rows n f)
+changed_is_tree rows n f keeps tree =
+    relabelled_is_tree rows (change_at n f rows.contents) tree (length-change_at f n rows.contents)
+    (λ k. ap is_shadow_kind (kind_changed f keeps n rows.contents k)) (λ k. ap is_element_kind (kind_changed f keeps n rows.contents k))
+
+pub with_text_is_tree : (rows : Rows) (n : ℕ) (text : List ℕ) → is_text rows n ≡ true → IsTree rows → IsTree (with_text rows n text)
+with_text_is_tree rows n text is tree =
+    relabelled_is_tree rows (with_text rows n text).contents tree (length-change_at (λ content. record content { kind = Text text }) n rows.contents)
+    (shadow_kind_texted text n rows.contents is) (element_kind_texted text n rows.contents is)
+
+-- ---- the focus, and how far the page is scrolled
+pub seen_is_tree : (rows : Rows) (focus : Option ℕ) (scroll : Point) → IfSome focus (λ n. is_element rows n ≡ true) → IsTree rows → IsTree (seen rows focus scroll)
+seen_is_tree rows focus scroll element tree = record {
+  some = tree.some;
+  few = tree.few;
+  kids_of_each = tree.kids_of_each;
+  shadow_of_each = tree.shadow_of_each;
+  content_of_each = tree.content_of_each;
+  top = tree.top;
+  each = tree.each;
+  host = tree.host;
+  roots = tree.roots;
+  shallow = tree.shallow;
+  focused = element;
 }
 
 -- ---- what taking a node out changes

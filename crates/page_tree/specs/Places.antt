@@ -118,3 +118,10 @@ below_of shadows kids n = only (shadow_of shadows n) ++ kids_of kids n
 
 abbrev pub below : List (Option ℕ) → List (List ℕ) → List (List ℕ)
 below shadows kids = map (below_of shadows kids) (range_with_len 0 (length kids))
+
+-- ---- heights
+
+-- whether a node and what stands under it have at most so many levels
+unfoldable pub fits_levels : ℕ → List (List ℕ) → ℕ → Bool
+fits_levels zero kids n = false
+fits_levels (suc levels) kids n = list_all (fits_levels levels kids) (kids_of kids n)

@@ -1,11 +1,13 @@
 -- The rows of a document. A node's number is its place in each list, so each number below the count has one row.
-use Rattle.std.specs.Prelude.{◌≡◌, ℕ, zero, suc, ◌≤◌, ◌<◌, Bool, true, false, List, [], ◌∷◌, ◌++◌, Option, Some, None, length, map, slice_get, slice_set, if◌then◌else◌}
+use Rattle.std.specs.Prelude.{◌≡◌, ℕ, ℤ, pos, zero, suc, ◌≤◌, ◌<◌, Bool, true, false, List, [], ◌∷◌, ◌++◌, Option, Some, None, IfSome, length, map, slice_get, slice_set, if◌then◌else◌}
 use Rattle.std.specs.Option.{option_map}
-use Rattle.page_tree.specs.Attributes.{value_of, changed_to}
+use Rattle.page_tree.specs.Attributes.{Attributes, value_of, changed_to}
 use Rattle.page_tree.specs.Places.{up_of, kids_of, shadow_of, times, points_to, lineage, depth, max_depth, without, put_among, contains, walk, path_of, is_hosted, own_up, own_ups, below}
 use Rattle.page_tree.specs.declared.content.Content.{Content}
 use Rattle.page_tree.specs.declared.content.Kind.{Kind}
 use Rattle.page_tree.specs.declared.content.Kind.TheVariants.{Element, Text, Shadow}
+use Rattle.page_tree.specs.declared.geometry.PixelBox.{PixelBox}
+use Rattle.page_tree.specs.declared.geometry.Point.{Point}
 
 pub record Rows : Type 0 where
   -- the parent of each node; that of a shadow root is its host
@@ -16,6 +18,10 @@ pub record Rows : Type 0 where
   pub shadows : List (Option ℕ)
   -- what each node is
   pub contents : List Content
+  -- the element that has the focus, if there is one
+  pub focus : Option ℕ
+  -- how far the page is scrolled
+  pub scroll : Point
 
 abbrev pub max_nodes : ℕ
 max_nodes = 50000
@@ -83,6 +89,50 @@ content_attribute name (Some content) = value_of name content.attributes
 abbrev pub attribute_of : Rows → ℕ → List ℕ → Option (List ℕ)
 attribute_of rows n name = content_attribute name (slice_get rows.contents n)
 
+-- a node of that kind as it is added: no attributes, no box, layer 0, not hidden, no value, not checked
+abbrev pub plain : Kind → Content
+plain kind = record { kind = kind; attributes = []; pixels = None; layer = pos 0; hidden = false; value = []; checked = false }
+
+-- an element with this tag
+abbrev pub element : List ℕ → Content
+element tag = plain (Element tag)
+
+-- a text
+abbrev pub text_node : List ℕ → Content
+text_node text = plain (Text text)
+
+abbrev pub shadow_root : Content
+shadow_root = plain Shadow
+
+abbrev pub or_shadow_root : Option Content → Content
+or_shadow_root None = shadow_root
+or_shadow_root (Some content) = content
+
+-- what a node is; a number that no node has is taken for a shadow root
+abbrev pub content_at : Rows → ℕ → Content
+content_at rows n = or_shadow_root (slice_get rows.contents n)
+
+-- a node's attributes, in the order in which they were first set
+abbrev pub attributes_at : Rows → ℕ → Attributes
+attributes_at rows n = (content_at rows n).attributes
+
+-- the characters of a node's value
+abbrev pub value_at : Rows → ℕ → List ℕ
+value_at rows n = (content_at rows n).value
+
+abbrev pub checked_at : Rows → ℕ → Bool
+checked_at rows n = (content_at rows n).checked
+
+-- a node's box, if it has one
+abbrev pub pixels_at : Rows → ℕ → Option PixelBox
+pixels_at rows n = (content_at rows n).pixels
+
+abbrev pub layer_at : Rows → ℕ → ℤ
+layer_at rows n = (content_at rows n).layer
+
+abbrev pub hidden_at : Rows → ℕ → Bool
+hidden_at rows n = (content_at rows n).hidden
+
 -- ---- what holds of the rows of every document
 
 pub record IsTree (rows : Rows) : Type 0 where
@@ -102,6 +152,8 @@ pub record IsTree (rows : Rows) : Type 0 where
   pub roots : (n : ℕ) → is_shadow rows n ≡ is_hosted rows.ups rows.shadows n
   -- no node is deeper than 200, hosts counted, so that parents run in no circle
   pub shallow : (n : ℕ) → depth rows.ups n ≤ max_depth
+  -- what has the focus is an element
+  pub focused : IfSome rows.focus (λ n. is_element rows n ≡ true)
 
 -- ---- where nodes stand
 
@@ -126,23 +178,16 @@ paths_of rows nodes = map (path rows) nodes
 
 -- ---- changes
 
--- an element with this tag
-abbrev pub element : List ℕ → Content
-element tag = record { kind = Element tag; attributes = [] }
-
--- a text
-abbrev pub text_node : List ℕ → Content
-text_node text = record { kind = Text text; attributes = [] }
-
-abbrev pub shadow_root : Content
-shadow_root = record { kind = Shadow; attributes = [] }
+-- the corner of the page
+abbrev pub origin : Point
+origin = record { x = pos 0; y = pos 0 }
 
 abbrev pub one_node : Content → Rows
-one_node content = record { ups = None ∷ []; kids = [] ∷ []; shadows = None ∷ []; contents = content ∷ [] }
+one_node content = record { ups = None ∷ []; kids = [] ∷ []; shadows = None ∷ []; contents = content ∷ []; focus = None; scroll = origin }
 
 -- with one node more, which has that parent and nothing below it
 abbrev pub grown : Rows → Option ℕ → Content → Rows
-grown rows up content = record { ups = rows.ups ++ up ∷ []; kids = rows.kids ++ [] ∷ []; shadows = rows.shadows ++ None ∷ []; contents = rows.contents ++ content ∷ [] }
+grown rows up content = record rows { ups = rows.ups ++ up ∷ []; kids = rows.kids ++ [] ∷ []; shadows = rows.shadows ++ None ∷ []; contents = rows.contents ++ content ∷ [] }
 
 abbrev pub with_shadow : Rows → ℕ → Option ℕ → Rows
 with_shadow rows n shadow = record rows { shadows = slice_set rows.shadows n shadow }
@@ -178,5 +223,33 @@ change_at n f [] = []
 change_at zero f (x ∷ xs) = f x ∷ xs
 change_at (suc n) f (x ∷ xs) = x ∷ change_at n f xs
 
+-- with f applied to what a node is
+abbrev pub with_content : Rows → ℕ → (Content → Content) → Rows
+with_content rows n f = record rows { contents = change_at n f rows.contents }
+
 abbrev pub with_attribute : Rows → ℕ → List ℕ → Option (List ℕ) → Rows
-with_attribute rows n name value = record rows { contents = change_at n (λ content. record content { attributes = changed_to name value content.attributes }) rows.contents }
+with_attribute rows n name value = with_content rows n (λ content. record content { attributes = changed_to name value content.attributes })
+
+abbrev pub with_text : Rows → ℕ → List ℕ → Rows
+with_text rows n text = with_content rows n (λ content. record content { kind = Text text })
+
+abbrev pub with_value : Rows → ℕ → List ℕ → Rows
+with_value rows n text = with_content rows n (λ content. record content { value = text })
+
+abbrev pub with_pixels : Rows → ℕ → Option PixelBox → Rows
+with_pixels rows n pixels = with_content rows n (λ content. record content { pixels = pixels })
+
+abbrev pub with_layer : Rows → ℕ → ℤ → Rows
+with_layer rows n layer = with_content rows n (λ content. record content { layer = layer })
+
+abbrev pub with_hidden : Rows → ℕ → Bool → Rows
+with_hidden rows n hidden = with_content rows n (λ content. record content { hidden = hidden })
+
+abbrev pub with_checked : Rows → ℕ → Bool → Rows
+with_checked rows n checked = with_content rows n (λ content. record content { checked = checked })
+
+abbrev pub with_focus : Rows → Option ℕ → Rows
+with_focus rows node = record rows { focus = node }
+
+abbrev pub with_scroll : Rows → Point → Rows
+with_scroll rows at = record rows { scroll = at }

@@ -1,8 +1,9 @@
-ghost use Rattle.std.specs.Prelude.{◌≡◌, ◌<◌, ◌^◌, Some, length, nat_le, nat_lt, slice_set};
-ghost use Rattle.page_tree.specs.Places.{up_of, lineage, contains, depth, max_depth, all_shallow};
-ghost use Rattle.page_tree.specs.Inside.{ups_of};
+ghost use Rattle.std.specs.Prelude.{◌≡◌, ◌<◌, false, Some, length, slice_set};
+ghost use Rattle.page_tree.specs.Places.{lineage, contains, depth as depth_of, all_shallow, below, fits_levels as levels_fit};
+ghost use Rattle.page_tree.specs.Inside.{rows_of, ups_of, kids_lists, shadows_of};
+ghost use Rattle.page_tree.specs.Rows.{IsTree};
 
-use crate::node::{Node, parent};
+use crate::node::{Node, kids, parent, shadow};
 use wd_json::NodeId;
 
 /// The greatest depth at which a node may stand; the top of a tree has depth 1.
@@ -26,61 +27,46 @@ pub fn is_above(nodes: &[Node], above: NodeId, from: NodeId) -> bool
     at == above
 }
 
-/// Whether a node stands high enough to have something below it.
+/// How deep a node stands, the top of its tree at 1; 201 where the chain of parents is longer.
 #[tactic(auto, using(crate::proofs::Chains::chain_steps))]
-pub fn has_room_below(nodes: &[Node], node: NodeId) -> bool
-    ensures { result ≡ nat_lt (depth (ups_of nodes.now) node) max_depth }
+pub fn depth(nodes: &[Node], node: NodeId) -> usize
+    ensures { result ≡ depth_of (ups_of nodes.now) node }
 {
     let mut at = node;
-    for _i in 0..MAX_DEPTH - 1 {
+    for i in 0..MAX_DEPTH {
         match parent(nodes, at) {
             Some(up) => at = up,
-            None => return true,
+            None => return i + 1,
         }
     }
-    false
+    MAX_DEPTH + 1
 }
 
-/// Whether all nodes stand at depth 200 at most once the node is put under `under`. It walks up
-/// from each node.
-#[tactic(auto, using(crate::proofs::Ranges::range_steps))]
+/// Whether all nodes stand at depth 200 at most once the node is put under `under`, which isn't
+/// below it. It walks up from `under`, and over what stands under the node.
 pub fn all_shallow_after(nodes: &[Node], node: NodeId, under: NodeId) -> bool
-    requires room { length nodes.now < 2 ^ 32 }
+    requires tree { IsTree (rows_of nodes.now) }
     requires within { node < length nodes.now }
+    requires apart { contains node (lineage (ups_of nodes.now) under) ≡ false }
     ensures { result ≡ all_shallow (slice_set (ups_of nodes.now) node (Some under)) }
 {
-    for i in 0..nodes.len() {
-        if !is_shallow_after(nodes, node, under, NodeId::of(i as u32)) {
+    fits_levels(nodes, node, MAX_DEPTH - depth(nodes, under))
+}
+
+// Whether the node and what stands under it, its shadow root included, have at most so many levels.
+fn fits_levels(nodes: &[Node], node: NodeId, levels: usize) -> bool
+    ensures { result ≡ levels_fit levels (below (shadows_of nodes.now) (kids_lists nodes.now)) node }
+{
+    if levels == 0 {
+        return false;
+    }
+    for kid in kids(nodes, node) {
+        if !fits_levels(nodes, *kid, levels - 1) {
             return false;
         }
     }
-    true
-}
-
-// Whether a node stands at depth 200 at most once the node is put under `under`.
-#[tactic(auto, using(crate::proofs::Chains::chain_steps))]
-fn is_shallow_after(nodes: &[Node], node: NodeId, under: NodeId, from: NodeId) -> bool
-    requires { node < length nodes.now }
-    ensures { result ≡ nat_le (depth (slice_set (ups_of nodes.now) node (Some under)) from) max_depth }
-{
-    let mut at = from;
-    for _i in 0..MAX_DEPTH {
-        match parent_after(nodes, node, under, at) {
-            Some(up) => at = up,
-            None => return true,
-        }
-    }
-    false
-}
-
-// The parent once the node is put under `under`.
-fn parent_after(nodes: &[Node], node: NodeId, under: NodeId, at: NodeId) -> Option<NodeId>
-    requires { node < length nodes.now }
-    ensures { result ≡ up_of (slice_set (ups_of nodes.now) node (Some under)) at }
-{
-    if at == node {
-        Some(under)
-    } else {
-        parent(nodes, at)
+    match shadow(nodes, node) {
+        Some(root) => fits_levels(nodes, root, levels - 1),
+        None => true,
     }
 }

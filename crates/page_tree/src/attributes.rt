@@ -35,6 +35,13 @@ impl Attributes {
         }
     }
 
+    /// All of them in order: the name and the value of each. It takes no memory.
+    pub fn all(&self) -> &[(WdText, WdText)]
+        ensures { result.now ≡ self.now }
+    {
+        self.entries.as_slice()
+    }
+
     /// The value of the attribute with that name, `None` exactly where there is none.
     pub fn value(&self, name: &str) -> Option<&str>
         ensures { option_map chars (option_copied result) ≡ value_of (chars name.now) self.now }

@@ -3,10 +3,13 @@ ghost use Rattle.std.specs.Str.{chars};
 ghost use Rattle.std.specs.List.{All};
 ghost use Rattle.std.specs.Option.{option_copied, option_map};
 
-use crate::ancestors::{MAX_DEPTH, all_shallow_after, has_room_below, is_above};
+mod fields;
+
+use crate::ancestors::{MAX_DEPTH, all_shallow_after, depth, is_above};
 use crate::content::Kind;
-use crate::edits::{attach, detach, placed, push_element, push_shadow, push_text, set_attribute};
+use crate::edits::{attach, detach, push_element, push_shadow, push_text, set_attribute};
 use crate::fault::TreeFault;
+use crate::geometry::Point;
 use crate::node::{Node, kids, parent, shadow};
 use crate::order::walk;
 use std::alloc::Global;
@@ -28,6 +31,8 @@ const MAX_NODES: usize = 50_000;
 pub struct Document {
     alloc: Global,
     nodes: Vec<Node>,
+    focus: Option<NodeId>,
+    scroll: Point,
     spent: bool,
 }
 
@@ -37,11 +42,11 @@ impl Model for Document {
 
     ghost Value = { DocumentState };
 
-    ghost use Rattle.page_tree.specs.Inside.{rows_of};
+    ghost use Rattle.page_tree.specs.Inside.{rows_of, seen};
 
-    ghost view = { λ d. record { rows = rows_of d.nodes.items; spent = d.spent } };
+    ghost view = { λ d. record { rows = seen (rows_of d.nodes.items) d.focus d.scroll; spent = d.spent } };
 
-    ghost invariant = { λ d. IsTree (rows_of d.nodes.items) };
+    ghost invariant = { λ d. IsTree (seen (rows_of d.nodes.items) d.focus d.scroll) };
 }
 
 impl Document {
@@ -58,6 +63,8 @@ impl Document {
         Ok(Document {
             alloc,
             nodes,
+            focus: None,
+            scroll: Point { x: 0, y: 0 },
             spent: false,
         })
     }
@@ -78,7 +85,8 @@ impl Document {
     }
 
     /// What holds of the rows of every document: parents and children agree, a shadow root's
-    /// parent is its host, and no node stands deeper than 200. It does nothing.
+    /// parent is its host, no node stands deeper than 200, and what has the focus is an element. It
+    /// does nothing.
     pub fn law(&self)
         requires { self.now.spent ≡ false }
         ensures { IsTree self.now.rows }
@@ -252,7 +260,7 @@ impl Document {
         if number == MAX_NODES {
             return Err(TreeFault::Nodes);
         }
-        if !has_room_below(&self.nodes, host) {
+        if depth(&self.nodes, host) >= MAX_DEPTH {
             return Err(TreeFault::Depth);
         }
         if push_shadow(&mut self.nodes, self.alloc, host).is_err() {
@@ -266,7 +274,9 @@ impl Document {
     /// where there are fewer. The node is taken out before the place is counted. `Cycle` exactly
     /// where the parent is the node or below it; else `Depth` exactly where some node would stand
     /// deeper than 200, the top of a tree having depth 1; `Memory` where there is none for the
-    /// parent's children. It walks up from every node of the document, at most 200 steps each.
+    /// parent's children. It walks up from the parent, at most 200 steps, and over what is below the
+    /// node; then over the children of the old parent, if there is one, and over the parent's
+    /// children from that place on.
     pub fn insert(&mut self, node: NodeId, parent: NodeId, place: u32) -> Result<(), TreeFault>
         requires alive { self.old.spent ≡ false }
         requires node_in { node < count self.old.rows }
@@ -284,15 +294,11 @@ impl Document {
         if !all_shallow_after(&self.nodes, node, parent) {
             return Err(TreeFault::Depth);
         }
-        let kids = match placed(self.alloc, kids(&self.nodes, parent), node, place as usize) {
-            Ok(kids) => kids,
-            Err(_) => {
-                self.spent = true;
-                return Err(TreeFault::Memory);
-            }
-        };
         detach(&mut self.nodes, node);
-        attach(&mut self.nodes, node, parent, kids);
+        if attach(&mut self.nodes, node, parent, place as usize).is_err() {
+            self.spent = true;
+            return Err(TreeFault::Memory);
+        }
         Ok(())
     }
 
@@ -305,7 +311,7 @@ impl Document {
         requires not_shadow { is_shadow self.old.rows node ≡ false }
         ensures { self.new ≡ record self.old { rows = detached self.old.rows node } }
     {
-        detach(&mut self.nodes, node);
+        detach(&mut self.nodes, node)
     }
 
     /// Sets the attribute of an element where it stands, or last where there was none with exactly

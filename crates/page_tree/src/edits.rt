@@ -3,7 +3,7 @@ ghost use Rattle.std.specs.Str.{chars};
 ghost use Rattle.std.specs.Option.{option_copied, option_map};
 ghost use Rattle.page_tree.specs.Places.{kids_of, without, put_among};
 ghost use Rattle.page_tree.specs.Inside.{kids_lists, rows_of};
-ghost use Rattle.page_tree.specs.Rows.{IsTree, element, text_node, grown, hosting, detached, with_shadow, with_up, with_kids, without_kid, with_attribute};
+ghost use Rattle.page_tree.specs.Rows.{IsTree, element, text_node, grown, hosting, detached, attached, with_shadow, with_up, with_kids, without_kid, with_attribute};
 
 use crate::content::Content;
 use crate::node::{Node, parent};
@@ -60,22 +60,6 @@ fn push_node(
     Ok(())
 }
 
-/// The children with the node at that place among the others, or last where there are fewer.
-pub fn placed(
-    alloc: Global,
-    kids: &[NodeId],
-    node: NodeId,
-    place: usize,
-) -> Result<Vec<NodeId>, AllocError>
-    ensures { IfOk result (λ v. v.items ≡ put_among place node (without node kids.now)) }
-{
-    let mut others = Vec::from_slice(alloc, kids)?;
-    take_out(&mut others, node);
-    let place = place.min(others.len());
-    others.insert(place, node)?;
-    Ok(others)
-}
-
 /// Takes the node out of its parent's children, so that it stands alone with what is below it.
 pub fn detach(nodes: &mut Vec<Node>, node: NodeId)
     requires tree { IsTree (rows_of nodes.old.items) }
@@ -86,14 +70,22 @@ pub fn detach(nodes: &mut Vec<Node>, node: NodeId)
     set_up(nodes, node, None);
 }
 
-/// Gives the node a parent, and the parent these children.
-pub fn attach(nodes: &mut Vec<Node>, node: NodeId, under: NodeId, kids: Vec<NodeId>)
+/// Puts a node that stands alone at that place among the children of `under`, or last where there
+/// are fewer. After want of memory it still stands alone.
+pub fn attach(
+    nodes: &mut Vec<Node>,
+    node: NodeId,
+    under: NodeId,
+    place: usize,
+) -> Result<(), AllocError>
     requires within { node < length nodes.old.items }
     requires under_within { under < length nodes.old.items }
-    ensures { rows_of nodes.new.items ≡ with_up (with_kids (rows_of nodes.old.items) under kids.items) node (Some under) }
+    ensures ok { OnOk result (rows_of nodes.new.items ≡ attached (rows_of nodes.old.items) node under place) }
+    ensures err { OnErr result (rows_of nodes.new.items ≡ rows_of nodes.old.items) }
 {
-    set_kids(nodes, under, kids);
+    add_kid(nodes, under, node, place)?;
     set_up(nodes, node, Some(under));
+    Ok(())
 }
 
 /// Sets the node's attribute, or takes it away where there is no value.
@@ -132,13 +124,6 @@ fn set_up(nodes: &mut Vec<Node>, node: NodeId, up: Option<NodeId>)
     nodes[node.index()].up = up;
 }
 
-fn set_kids(nodes: &mut Vec<Node>, node: NodeId, kids: Vec<NodeId>)
-    requires { node < length nodes.old.items }
-    ensures { rows_of nodes.new.items ≡ with_kids (rows_of nodes.old.items) node kids.items }
-{
-    nodes[node.index()].kids = kids;
-}
-
 fn set_shadow(nodes: &mut Vec<Node>, node: NodeId, shadow: Option<NodeId>)
     requires { node < length nodes.old.items }
     ensures { rows_of nodes.new.items ≡ with_shadow (rows_of nodes.old.items) node shadow }
@@ -157,4 +142,21 @@ fn take_out(kids: &mut Vec<NodeId>, node: NodeId)
     ensures { kids.new.items ≡ without node kids.old.items }
 {
     kids.retain(|kid| *kid != node);
+}
+
+fn add_kid(nodes: &mut Vec<Node>, node: NodeId, kid: NodeId, place: usize) -> Result<(), AllocError>
+    requires { node < length nodes.old.items }
+    ensures ok { OnOk result (rows_of nodes.new.items ≡ with_kids (rows_of nodes.old.items) node (put_among place kid (kids_of (kids_lists nodes.old.items) node))) }
+    ensures err { OnErr result (rows_of nodes.new.items ≡ rows_of nodes.old.items) }
+{
+    put_in(&mut nodes[node.index()].kids, kid, place)
+}
+
+fn put_in(kids: &mut Vec<NodeId>, node: NodeId, place: usize) -> Result<(), AllocError>
+    ensures ok { OnOk result (kids.new.items ≡ put_among place node kids.old.items) }
+    ensures err { OnErr result (kids.new.items ≡ kids.old.items) }
+{
+    let place = place.min(kids.len());
+    kids.insert(place, node)?;
+    Ok(())
 }

@@ -1,4 +1,7 @@
-use crate::{Document, TreeFault};
+ghost use Rattle.std.specs.Prelude.{◌≡◌, ◌<◌, false, true};
+ghost use Rattle.page_tree.specs.Rows.{count, is_element};
+
+use crate::{Document, PixelBox, Point, TreeFault};
 use std::alloc::Global;
 use std::process::Abort;
 use std::test::Fail;
@@ -117,6 +120,10 @@ fn attributes_and_shadow_roots(rt: HostRuntime) -> Result<(), Fail> {
     page.set_attr(root, "class", None)?;
     assert_eq!(rt; page.attr(root, "lang"), Some("en"));
     assert!(rt; page.attr(root, "class").is_none());
+    let all = page.attributes(root);
+    assert_eq!(rt; all.len(), 1);
+    assert_eq!(rt; all[0].0.as_str(), "lang");
+    assert_eq!(rt; all[0].1.as_str(), "en");
     assert!(rt; page.shadow_of(root).is_none());
     let shadow = page.add_shadow(root)?;
     let text = page.add_text("under")?;
@@ -128,5 +135,144 @@ fn attributes_and_shadow_roots(rt: HostRuntime) -> Result<(), Fail> {
     assert_eq!(rt; page.in_order()?.len(), 1);
     page.remove(text);
     assert!(rt; !page.connected(text));
+    Ok(())
+}
+
+#[test]
+fn depth_counts_what_is_below(rt: HostRuntime) -> Result<(), Fail> {
+    let mut page = Document::new(rt.alloc(), "html")?;
+    // node 197 stands at depth 198
+    for number in 1..198 {
+        assert!(rt; !page.spent());
+        page.add_element("p")?;
+        moved(&rt, &mut page, number, number - 1, 0)?;
+    }
+    // a host with a text in its shadow tree has three levels
+    assert!(rt; !page.spent());
+    let host = page.add_element("p")?;
+    assert!(rt; page.tag(host).is_some());
+    assert!(rt; page.shadow_of(host).is_none());
+    page.add_shadow(host)?;
+    assert!(rt; !page.spent());
+    page.add_text("x")?;
+    moved(&rt, &mut page, 200, 199, 0)?;
+    match moved(&rt, &mut page, 198, 197, 0) {
+        Ok(()) => assert!(rt; false),
+        Err(fault) => assert_eq!(rt; fault, TreeFault::Depth),
+    }
+    moved(&rt, &mut page, 198, 196, 0)?;
+    assert!(rt; !page.spent());
+    assert!(rt; page.count() == 201);
+    assert!(rt; page.connected(NodeId::of(200)));
+    Ok(())
+}
+
+/// Sees that this node is an element of a document that isn't spent.
+fn element(rt: &impl Abort, page: &Document, node: u32) -> NodeId
+    ensures alive { page.now.spent ≡ false }
+    ensures node { result ≡ node }
+    ensures node_in { node < count page.now.rows }
+    ensures element { is_element page.now.rows node ≡ true }
+{
+    let node = NodeId::of(node);
+    assert!(rt; !page.spent());
+    assert!(rt; node.number() < page.count());
+    assert!(rt; page.tag(node).is_some());
+    node
+}
+
+/// What a node is.
+#[derive(Clone, Copy)]
+struct Expected<'a> {
+    tag: Option<&'a str>,
+    text: Option<&'a str>,
+    value: &'a str,
+    pixels: Option<PixelBox>,
+    layer: i32,
+    hidden: bool,
+    checked: bool,
+}
+
+fn looks(rt: &impl Abort, page: &Document, node: u32, expected: Expected<'_>) {
+    let node = NodeId::of(node);
+    assert!(rt; !page.spent());
+    assert!(rt; node.number() < page.count());
+    assert_eq!(rt; page.tag(node), expected.tag);
+    assert_eq!(rt; page.text(node), expected.text);
+    assert_eq!(rt; page.value(node), expected.value);
+    assert_eq!(rt; page.pixels(node), expected.pixels);
+    assert_eq!(rt; page.layer(node), expected.layer);
+    assert_eq!(rt; page.hidden(node), expected.hidden);
+    assert_eq!(rt; page.checked(node), expected.checked);
+}
+
+fn added<'a>(tag: Option<&'a str>, text: Option<&'a str>) -> Expected<'a> {
+    Expected {
+        tag,
+        text,
+        value: "",
+        pixels: None,
+        layer: 0,
+        hidden: false,
+        checked: false,
+    }
+}
+
+#[test]
+fn each_field_is_set_alone(rt: HostRuntime) -> Result<(), Fail> {
+    let mut page = nine_nodes(&rt, rt.alloc())?;
+    let pixels = PixelBox {
+        x: 1,
+        y: -2,
+        w: 30,
+        h: 40,
+    };
+    let at = element(&rt, &page, 2);
+    page.set_value(at, "cat")?;
+    let at = element(&rt, &page, 2);
+    page.set_box(at, Some(pixels));
+    let at = element(&rt, &page, 2);
+    page.set_layer(at, -3);
+    let at = element(&rt, &page, 3);
+    page.set_hidden(at, true);
+    let at = element(&rt, &page, 4);
+    page.set_checked(at, true);
+    let at = element(&rt, &page, 5);
+    page.set_focus(Some(at));
+    assert!(rt; !page.spent());
+    page.set_scroll(Point { x: 7, y: -50 });
+    assert!(rt; page.count() == 9);
+    assert!(rt; page.text(NodeId::of(7)).is_some());
+    page.set_text(NodeId::of(7), "dog")?;
+
+    looks(&rt, &page, 0, added(Some("html"), None));
+    looks(&rt, &page, 1, added(Some("p"), None));
+    let mut second = added(Some("p"), None);
+    second.value = "cat";
+    second.pixels = Some(pixels);
+    second.layer = -3;
+    looks(&rt, &page, 2, second);
+    let mut third = added(Some("p"), None);
+    third.hidden = true;
+    looks(&rt, &page, 3, third);
+    let mut fourth = added(Some("p"), None);
+    fourth.checked = true;
+    looks(&rt, &page, 4, fourth);
+    looks(&rt, &page, 5, added(Some("p"), None));
+    looks(&rt, &page, 6, added(None, Some("x")));
+    looks(&rt, &page, 7, added(None, Some("dog")));
+    looks(&rt, &page, 8, added(Some("b"), None));
+    assert!(rt; !page.spent());
+    assert_eq!(rt; page.focus(), Some(NodeId::of(5)));
+    assert_eq!(rt; page.scroll(), Point { x: 7, y: -50 });
+
+    let at = element(&rt, &page, 2);
+    page.set_box(at, None);
+    assert!(rt; !page.spent());
+    page.set_focus(None);
+    second.pixels = None;
+    looks(&rt, &page, 2, second);
+    assert!(rt; !page.spent());
+    assert_eq!(rt; page.focus(), None);
     Ok(())
 }

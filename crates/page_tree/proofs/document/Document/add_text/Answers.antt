@@ -10,4 +10,4 @@ invariant_of-self-else-is_err c =
     let nodes = c.self.inside.nodes.items in
     let content = text_node (chars c.args.text.now) in
     let pushed : rows_of c.push_text.new.nodes.items ≡ grown (rows_of nodes) None content = search rules in
-    grown_nodes nodes (rows_of c.push_text.new.nodes.items) content refl pushed c.self.invariant (λ full. c.if-number-eq-MAX_NODES.false (omega arith))
+    grown_nodes nodes c.self.inside.focus c.self.inside.scroll (rows_of c.push_text.new.nodes.items) content refl pushed c.self.invariant (λ full. c.if-number-eq-MAX_NODES.false (omega arith))
