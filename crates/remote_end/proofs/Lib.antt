@@ -7,3 +7,4 @@ pub mod RunAtLemmas
 pub mod RunLemmas
 pub mod SessionLemmas
 pub mod StepLemmas
+pub mod TimeoutLemmas

@@ -20,8 +20,8 @@ module _ (setting : Setting) (next : ℕ) (matched : Matched) (reading : ℕ) (s
   pub in_range : AreInRange matched.timeouts → AreInRange session.matched.timeouts
   in_range h = let P : Session → Type 0 = λ s. AreInRange s.matched.timeouts in subst P (sym is) h
 
-  pub is_whole : IsWhole session
-  is_whole = let whole : IsWhole (opened setting next matched reading) = record { known = refl; page = refl } in subst IsWhole (sym is) whole
+  pub is_whole : AreInRange matched.timeouts → IsWhole session
+  is_whole h = let whole : IsWhole (opened setting next matched reading) = record { known = refl; page = refl; timeouts = h } in subst IsWhole (sym is) whole
 
   pub opens : (old new : List Session) (parameters : Json) (value : Json) (reply : Reply)
       → processed setting.name parameters ≡ Ok matched → value ≡ session_value setting session → reply ≡ success value → new ≡ old ++ session ∷ []

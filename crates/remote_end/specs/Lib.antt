@@ -4,7 +4,7 @@ pub mod Moments
 pub mod Plan
 pub mod Values
 pub mod Replies
-pub mod Parameters
+pub mod Built
 pub mod Meaning
 pub mod BuiltIn
 pub mod Elements

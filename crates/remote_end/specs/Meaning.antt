@@ -4,6 +4,10 @@ use Rattle.std.specs.Str.{encode_utf8_all}
 use Rattle.endpoints.specs.declared.command.Command.TheVariants.{NewSession}
 use Rattle.endpoints.specs.declared.route.Route.{Route}
 use Rattle.endpoints.specs.Route.{IsRouteOf, IsRefusal}
+use Rattle.capabilities.specs.Values.{Members}
+use Rattle.parameters.specs.Body.{IsObjectFor, HasNone}
+use Rattle.parameters.specs.Refusals.{refusal_in}
+use Rattle.parameters.specs.Parameters.{IsParametersOf}
 use Rattle.wd_errors.specs.declared.code.Code.{Code}
 use Rattle.wd_errors.specs.declared.code.Code.TheVariants.{InvalidSessionId, InvalidArgument, SessionNotCreated, UnsupportedOperation}
 use Rattle.wd_http.specs.declared.request.Request.{Request}
@@ -11,7 +15,7 @@ use Rattle.wd_json.specs.declared.json.Json.{Json}
 use Rattle.remote_end.specs.declared.order.Order.{Order}
 use Rattle.remote_end.specs.declared.session.Session.{Session}
 use Rattle.remote_end.specs.State.{State, place_of, is_full}
-use Rattle.remote_end.specs.Parameters.{HasObject, IsPost, Carries, parameter_refusal, is_built}
+use Rattle.remote_end.specs.Built.{is_built}
 
 -- an open session is named, or none
 abbrev pub names_open : Option (List ℕ) → List Session → Bool
@@ -35,15 +39,15 @@ abbrev pub Refuses : State → Route → List ℕ → Check → Code → Type 0
 -- its session isn't open
 Refuses state route body OpenSession code = (names_open route.session state.sessions ≡ false) × (code ≡ InvalidSessionId)
 -- it is a POST, and its body is no JSON object with whole numbers
-Refuses state route body ObjectBody code = IsPost route.command × HasObject body false × (code ≡ InvalidArgument)
+Refuses state route body ObjectBody code = HasNone route.command body × (code ≡ InvalidArgument)
 -- it asks for a session, and no further one can be opened
 Refuses state route body SessionLimit code = (route.command ≡ NewSession) × (is_full state ≡ true) × (code ≡ SessionNotCreated)
--- its command refuses its parameters
+-- its command refuses its object: this end has no such command, or a parameter isn't of its kind
 Refuses state route body GoodParameters code =
-    (parameters : Json) × Carries route.command body parameters × (parameter_refusal route.command parameters ≡ Some code)
+    (members : Members) × IsObjectFor route.command body members × (refusal_in route.command members ≡ Some code)
 -- its row isn't built
 Refuses state route body BuiltRow code =
-    (parameters : Json) × Carries route.command body parameters × (is_built route.command parameters ≡ false) × (code ≡ UnsupportedOperation)
+    (parameters : Json) × IsParametersOf route body parameters × (is_built route.command parameters ≡ false) × (code ≡ UnsupportedOperation)
 
 abbrev pub Passes : State → Route → List ℕ → Check → Type 0
 Passes state route body check = (code : Code) → Refuses state route body check code → ⊥
@@ -74,7 +78,7 @@ pub data IsRefused (state : State) (request : Request) (code : Code) : Type 0 wh
 pub record IsCommand (state : State) (request : Request) (order : Order) : Type 0 where
   pub endpoint : IsRouteOf (method_bytes request) (target_bytes request) order.route
   pub passes : AllPass state order.route request.body checks
-  pub carries : Carries order.route.command request.body order.parameters
+  pub carries : IsParametersOf order.route request.body order.parameters
 
 -- What a request asks for: its command with its variables and parameters, or the code with which it is refused.
 abbrev pub Means : State → Request → Result Order Code → Type 0
@@ -85,5 +89,5 @@ Means state request (Err code) = IsRefused state request code
 
 -- the answer to the checks of a request that has an endpoint
 abbrev pub IsCheckedBy : State → Route → List ℕ → Result Json Code → Type 0
-IsCheckedBy state route body (Ok parameters) = AllPass state route body checks × Carries route.command body parameters
+IsCheckedBy state route body (Ok parameters) = AllPass state route body checks × IsParametersOf route body parameters
 IsCheckedBy state route body (Err code) = FirstRefusal state route body checks code

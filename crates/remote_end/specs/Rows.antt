@@ -3,10 +3,12 @@ use Rattle.std.specs.Prelude.{ℕ, List, [], Option, Some, None, Result, Ok, Err
 use Rattle.std.specs.Option.{unwrap_or, option_map_or}
 use Rattle.std.specs.Str.{encode_utf8_all}
 use Rattle.capabilities.specs.Processed.{processed}
+use Rattle.capabilities.specs.Timeouts.{timeouts_in, timeouts_object}
 use Rattle.capabilities.specs.declared.matched.Matched.{Matched}
+use Rattle.capabilities.specs.declared.timeouts.Timeouts.{Timeouts}
 use Rattle.capabilities.specs.declared.fault.CapFault.{CapFault}
 use Rattle.endpoints.specs.declared.command.Command.{Command}
-use Rattle.endpoints.specs.declared.command.Command.TheVariants.{Status, NewSession, DeleteSession, FindElement, GetElementTagName}
+use Rattle.endpoints.specs.declared.command.Command.TheVariants.{Status, NewSession, DeleteSession, GetTimeouts, SetTimeouts, FindElement, GetElementTagName}
 use Rattle.page_tree.specs.Rows.{Rows, tag_of}
 use Rattle.references.specs.Handed.{Handed, handed}
 use Rattle.references.specs.HandedAll.{named}
@@ -14,7 +16,7 @@ use Rattle.references.specs.Identifier.{Identifier}
 use Rattle.references.specs.declared.kind.Kind.TheVariants.{Element}
 use Rattle.references.specs.declared.name.NodeName.{NodeName}
 use Rattle.wd_errors.specs.declared.code.Code.{Code}
-use Rattle.wd_errors.specs.declared.code.Code.TheVariants.{NoSuchElement, UnknownError, UnsupportedOperation}
+use Rattle.wd_errors.specs.declared.code.Code.TheVariants.{InvalidArgument, NoSuchElement, UnknownError, UnsupportedOperation}
 use Rattle.wd_json.specs.declared.json.Json.{Json}
 use Rattle.wd_json.specs.declared.json.Json.TheVariants.{Null, Text}
 use Rattle.remote_end.specs.declared.order.Order.{Order}
@@ -23,7 +25,7 @@ use Rattle.remote_end.specs.Setting.{Setting}
 use Rattle.remote_end.specs.State.{State, is_full, session_named, Same, Leaves, Ends, Opens}
 use Rattle.remote_end.specs.Plan.{Turn, at_once}
 use Rattle.remote_end.specs.Moments.{start_of}
-use Rattle.remote_end.specs.Parameters.{text_at}
+use Rattle.remote_end.specs.Built.{text_at}
 use Rattle.remote_end.specs.Elements.{found, looked_up, current_document}
 use Rattle.remote_end.specs.Opening.{opened, session_value, fault_code}
 use Rattle.remote_end.specs.Replies.{success, failure}
@@ -42,6 +44,17 @@ turn_alone setting state parameters reading NewSession = new_session setting sta
 turn_alone setting state parameters reading command = at_once (failure UnsupportedOperation) Same
 
 -- ---- commands of a session, which stands at its command's start
+
+abbrev pub timeouts_turn : Session → Turn
+timeouts_turn s = at_once (success (timeouts_object s.matched.timeouts)) (Leaves s)
+
+abbrev pub with_timeouts : Session → Timeouts → Session
+with_timeouts s timeouts = record s { matched = record s.matched { timeouts = timeouts } }
+
+-- all that are given are set at once, or none
+abbrev pub set_timeouts_turn : Session → Option Timeouts → Turn
+set_timeouts_turn s None = at_once (failure InvalidArgument) (Leaves s)
+set_timeouts_turn s (Some timeouts) = at_once (success Null) (Leaves (with_timeouts s timeouts))
 
 -- the reference of a node; too few serials are left where there is none
 abbrev pub with_reference : Session → Option (Identifier × Handed) → Turn
@@ -69,6 +82,8 @@ value_in parameters = unwrap_or (text_at (codes "value") parameters) []
 
 unfoldable pub turn_in : Order → Session → Command → Turn
 turn_in order s DeleteSession = at_once (success Null) Ends
+turn_in order s GetTimeouts = timeouts_turn s
+turn_in order s SetTimeouts = set_timeouts_turn s (timeouts_in order.parameters s.matched.timeouts)
 turn_in order s FindElement = find_turn s (found s.page.rows (value_in order.parameters))
 turn_in order s GetElementTagName = tag_name_turn s (looked_up s (item_of order))
 turn_in order s command = at_once (failure UnsupportedOperation) (Leaves s)

@@ -2,6 +2,7 @@
 use Rattle.std.specs.Prelude.{◌≡◌, ℕ, ◌+◌, ◌^◌, ◌||◌, not, nat_lt, List, [], ◌∷◌, ◌++◌, Bool, false, Option, Some, None, length, slice_get, slice_set}
 use Rattle.std.specs.List.{position, remove}
 use Rattle.std.specs.Str.{encode_utf8_all}
+use Rattle.capabilities.specs.Timeouts.{AreInRange}
 use Rattle.references.specs.Identifier.{is_text_of}
 use Rattle.remote_end.specs.declared.session.Session.{Session}
 
@@ -71,7 +72,8 @@ changed state own (Opens s) = record { next = state.next + 1; sessions = state.s
 
 -- ---- for private clauses
 
--- no call on what it keeps has wanted memory
+-- no call on what it keeps has wanted memory, and its timeouts are at most 2^53 - 1
 pub record IsWhole (s : Session) : Type 0 where
   pub known : s.known.spent ≡ false
   pub page : s.page.spent ≡ false
+  pub timeouts : AreInRange s.matched.timeouts

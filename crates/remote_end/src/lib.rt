@@ -3,6 +3,7 @@
 //! the capabilities, references and page of each session, and on the clock that is lent to it.
 #![tactic(auto)]
 
+mod built;
 mod built_in;
 mod elements;
 mod evaluator;
@@ -10,7 +11,6 @@ mod laws;
 mod meaning;
 mod opening;
 mod order;
-mod parameters;
 mod remote;
 mod reply;
 mod rows;
@@ -19,6 +19,7 @@ mod session;
 mod site;
 mod status;
 mod taken;
+mod timeouts;
 
 pub use evaluator::Evaluator;
 pub use laws::lookups_are_exact;

@@ -5,10 +5,11 @@ ghost use Rattle.remote_end.specs.State.{own_place, is_full};
 ghost use Rattle.references.specs.Identifier.{is_text_of};
 ghost use Rattle.remote_end.specs.Meaning.{names_open, IsCheckedBy, Means};
 
+use crate::built::is_built;
 use crate::order::Order;
-use crate::parameters::{carried, is_built, parameter_refusal};
 use crate::session::Session;
 use endpoints::{Command, Endpoints, Route, RouteFault};
+use parameters::{ParamFault, read_parameters};
 use std::alloc::Global;
 use wd_errors::Code;
 use wd_http::Request;
@@ -72,14 +73,13 @@ fn checked(
     if !names_open(&route.session, sessions) {
         return Ok(Err(Code::InvalidSessionId));
     }
-    let Some(parameters) = carried(alloc, route.command, body)? else {
-        return Ok(Err(Code::InvalidArgument));
+    let parameters = match read_parameters(alloc, route, body) {
+        Ok(parameters) => parameters,
+        Err(ParamFault::Refused(code)) => return Ok(Err(code)),
+        Err(ParamFault::Memory) => return Err(Memory),
     };
     if is_over_limit(route.command, next, sessions) {
         return Ok(Err(Code::SessionNotCreated));
-    }
-    if let Some(code) = parameter_refusal(route.command, &parameters) {
-        return Ok(Err(code));
     }
     if is_built(route.command, &parameters) {
         Ok(Ok(parameters))

@@ -10,12 +10,13 @@ ghost use Rattle.remote_end.specs.Elements.{found, looked_up};
 ghost use Rattle.remote_end.specs.Rows.{find_turn, tag_name_turn, tag_at, item_of, value_in, turn_in, at_start};
 ghost use Rattle.remote_end.specs.Values.{element_key, reference_value};
 
+use crate::built::text_at;
 use crate::elements::{found, looked_up};
 use crate::opening::LAST_MOMENT;
 use crate::order::Order;
-use crate::parameters::text_at;
 use crate::reply::{Reply, failure, put_member, success};
 use crate::session::Session;
+use crate::timeouts::{get_timeouts, set_timeouts};
 use endpoints::Command;
 use page_tree::Document;
 use references::{Id, IdFault, Kind, NodeName, id_text};
@@ -135,6 +136,8 @@ fn row(alloc: Global, session: &mut Session, order: &Order) -> Result<Reply, Mem
     ensures status { IfOk result (λ reply. IsTrue (is_status reply.status)) }
 {
     match order.route.command {
+        Command::GetTimeouts => get_timeouts(alloc, session),
+        Command::SetTimeouts => set_timeouts(alloc, session, &order.parameters),
         Command::FindElement => find_element(alloc, session, &order.parameters),
         Command::GetElementTagName => tag_name(alloc, session, item_of(order)),
         _ => failure(alloc, Code::UnsupportedOperation),

@@ -19,4 +19,4 @@ pub returns-in-Ok-clause-whole : goal.returns-in-Ok-clause-whole
 returns-in-Ok-clause-whole c all =
     let setting : Setting = record { name = c.args.offer.now.name; run = c.args.run } in
     all_more IsWhole c.args.sessions.now.items c.push.new.self.items c.in_ok-session-in-Ok.session c.in_ok-push-in-Ok.ensures.items
-    (is_whole setting c.args.next.now c.in-Ok.matched c.args.reading c.in_ok-session-in-Ok.session (c.in_ok-session-in-Ok.ensures setting.name)) all
+    (is_whole setting c.args.next.now c.in-Ok.matched c.args.reading c.in_ok-session-in-Ok.session (c.in_ok-session-in-Ok.ensures setting.name) c.in-Ok.ensures.range) all
