@@ -11,6 +11,12 @@ mod framed;
 #[cfg(test)]
 mod heads;
 #[cfg(test)]
+mod refusals;
+#[cfg(test)]
 mod session;
 #[cfg(test)]
 mod status;
+#[cfg(test)]
+mod timeouts;
+#[cfg(test)]
+mod turns;
