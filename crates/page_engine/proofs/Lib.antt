@@ -1,0 +1,12 @@
+pub mod Absent
+pub mod Fits
+pub mod Runs
+pub mod AsciiTexts
+pub mod LineTexts
+pub mod Growth
+pub mod BareRows
+pub mod Filling
+pub mod FirstSteps
+pub mod LawfulPages
+pub mod BuiltInLaws
+pub mod ADozen

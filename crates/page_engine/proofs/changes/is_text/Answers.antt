@@ -1,0 +1,6 @@
+use Rattle.page_engine.proofs.Absent.{text_past}
+use Rattle.page_engine.proofs.changes.is_text.Goals as goal
+
+pub returns-else-number-count-clause-value : goal.returns-else-number-count-clause-value
+returns-else-number-count-clause-value c =
+    text_past c.args.document.now.rows c.args.node c.number.result c.count.result c.law.ensures c.number.ensures c.count.ensures c.if-number-count.false

@@ -1,0 +1,15 @@
+pub mod Fitting
+pub mod Kinds
+pub mod Names
+pub mod Nodes
+pub mod Books
+pub mod Pages
+pub mod Sites
+pub mod Scene
+pub mod Effects
+pub mod Lines
+pub mod Dispatch
+pub mod Opening
+pub mod FirstValues
+pub mod Opened
+pub mod BuiltIn

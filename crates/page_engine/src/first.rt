@@ -1,0 +1,8 @@
+use wd_json::WdText;
+
+/// The value and the checked state that a node has when its page is opened.
+#[derive(Debug, Drop)]
+pub struct First {
+    pub value: WdText,
+    pub checked: bool,
+}
