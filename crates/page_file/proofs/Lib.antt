@@ -1,0 +1,4 @@
+pub mod EachRead
+pub mod WordTexts
+pub mod RowsRead
+pub mod WholeValues
