@@ -1,0 +1,13 @@
+use Rattle.std.proofs.Common.{◌∙◌, ap}
+use Rattle.std.specs.Str.{bytes_eq, str_to_ascii_lowercase, str_eq_ignore_ascii_case}
+use Rattle.std.proofs.lemmas.Slice.Eq.{bytes_eq-Decides}
+use Rattle.std.proofs.lemmas.Str.{encodes-chars}
+use Rattle.selectors.proofs.Bools.{bools_same}
+use Rattle.selectors.proofs.texts.is_same_ignoring_case.Goals as goal
+
+pub returns : goal.returns
+returns c = rw (encodes-chars c.args.tag.now c.utf8.tag)
+    (let same = bytes_eq-Decides (str_to_ascii_lowercase c.args.tag.now) (str_to_ascii_lowercase c.as_str.result.now) in
+    let test = c.eq_ignore_ascii_case.ensures.test in
+    bools_same c.eq_ignore_ascii_case.result (bytes_eq (str_to_ascii_lowercase c.args.tag.now) (str_to_ascii_lowercase c.as_str.result.now)) (λ t. same.1 (test.0 t)) (λ t. test.1 (same.0 t))
+    ∙ ap (str_eq_ignore_ascii_case c.args.tag.now) c.as_str.ensures.bytes)

@@ -1,0 +1,58 @@
+ghost use Rattle.std.specs.Prelude.{◌≡◌, ◌++◌, ◌<◌, false, IfOk, OnOk};
+ghost use Rattle.std.specs.List.{All};
+ghost use Rattle.page_tree.specs.Places.{walk as walk_of};
+ghost use Rattle.page_tree.specs.Rows.{count};
+ghost use Rattle.selectors.specs.Named.{in_scope};
+ghost use Rattle.selectors.specs.Scopes.{IsWithin};
+
+use crate::places::MAX_DEPTH;
+use crate::selector::Scope;
+use page_tree::Document;
+use std::alloc::Global;
+use wd_json::{Memory, NodeId, NodeList};
+
+/// The nodes of a scope, in document order.
+pub fn in_scope(alloc: Global, document: &Document, scope: Scope) -> Result<NodeList, Memory>
+    requires alive { document.now.spent ≡ false }
+    requires scope_in { IsWithin document.now.rows scope }
+    ensures list { IfOk result (λ list. list ≡ in_scope document.now.rows scope) }
+    ensures within { IfOk result (All (λ n. n < count document.now.rows)) }
+{
+    match scope {
+        Scope::Document => document.in_order(),
+        Scope::Under(node) => below(alloc, document, node),
+    }
+}
+
+fn below(alloc: Global, document: &Document, node: NodeId) -> Result<NodeList, Memory>
+    requires alive { document.now.spent ≡ false }
+    requires node_in { node < count document.now.rows }
+    ensures list { IfOk result (λ list. list ≡ in_scope document.now.rows (Scope.Under node)) }
+    ensures within { IfOk result (All (λ n. n < count document.now.rows)) }
+{
+    let mut found = NodeList::new(alloc);
+    let kids = document.children(node)?;
+    for kid in kids.as_slice() {
+        walk(document, *kid, MAX_DEPTH - 1, &mut found)?;
+    }
+    Ok(found)
+}
+
+// Adds the node and what is below it, in document order.
+fn walk(document: &Document, node: NodeId, steps: usize, found: &mut NodeList) -> Result<(), Memory>
+    requires alive { document.now.spent ≡ false }
+    requires node_in { node < count document.now.rows }
+    requires found_in { All (λ n. n < count document.now.rows) found.old }
+    ensures list { OnOk result (found.new ≡ found.old ++ walk_of steps document.now.rows.kids node) }
+    ensures within { OnOk result (All (λ n. n < count document.now.rows) found.new) }
+{
+    if steps == 0 {
+        return Ok(());
+    }
+    found.push(node)?;
+    let kids = document.children(node)?;
+    for kid in kids.as_slice() {
+        walk(document, *kid, steps - 1, found)?;
+    }
+    Ok(())
+}
