@@ -6,3 +6,16 @@ pub mod Nth
 pub mod Meets
 pub mod Named
 pub mod Scopes
+pub mod Characters
+pub mod Escapes
+pub mod Names
+pub mod Reading
+pub mod Steps
+pub mod Grammar
+pub mod ReadingSimples
+pub mod ReadingSelectors
+pub mod ReadingSteps
+pub mod WellFormed
+pub mod Texted
+pub mod Printing
+pub mod PrintingSelectors

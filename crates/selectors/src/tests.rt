@@ -1,5 +1,8 @@
+mod grammar;
 mod pages;
 mod pieces;
+mod printings;
+mod spellings;
 
 use crate::{Combinator, Scope, Test, first, nth_is_exact, select};
 use page_tree::Document;
