@@ -1,6 +1,7 @@
 pub mod AttributeLemmas
 pub mod Chains
 pub mod Counts
+pub mod Displays
 pub mod Heights
 pub mod Hosting
 pub mod Moves

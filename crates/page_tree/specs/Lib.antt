@@ -4,3 +4,4 @@ pub mod Rows
 pub mod DocumentState
 pub mod Faults
 pub mod Inside
+pub mod Display

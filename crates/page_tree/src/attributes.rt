@@ -98,8 +98,8 @@ impl Attributes {
     }
 }
 
-// Whether the two have the same characters.
-fn is_same(text: &WdText, other: &str) -> bool
+/// Whether the two have the same characters.
+pub fn is_same(text: &WdText, other: &str) -> bool
     ensures { result ≡ bytes_eq text.now (chars other.now) }
 {
     text.as_str() == other

@@ -3,6 +3,7 @@ ghost use Rattle.std.specs.Str.{chars};
 ghost use Rattle.std.specs.List.{All};
 ghost use Rattle.std.specs.Option.{option_copied, option_map};
 
+mod display;
 mod fields;
 
 use crate::ancestors::{MAX_DEPTH, all_shallow_after, depth, is_above};

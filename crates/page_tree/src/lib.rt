@@ -8,12 +8,14 @@
 mod ancestors;
 mod attributes;
 mod content;
+mod displayed;
 mod document;
 mod edits;
 mod fault;
 mod geometry;
 mod node;
 mod order;
+mod shown;
 
 pub use document::Document;
 pub use fault::TreeFault;

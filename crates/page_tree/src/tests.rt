@@ -1,6 +1,8 @@
 ghost use Rattle.std.specs.Prelude.{◌≡◌, ◌<◌, false, true};
 ghost use Rattle.page_tree.specs.Rows.{count, is_element};
 
+mod display;
+
 use crate::{Document, PixelBox, Point, TreeFault};
 use std::alloc::Global;
 use std::process::Abort;

@@ -1,0 +1,9 @@
+use Rattle.std.proofs.Common.{◌≡◌, ◌-◌}
+use Rattle.std.specs.List.{list_any}
+use Rattle.page_tree.specs.Places.{chain, lineage}
+use Rattle.page_tree.specs.Inside.{rows_of, ups_of}
+use Rattle.page_tree.specs.Display.{hides}
+use Rattle.page_tree.proofs.shown.is_under_hidden.Given as goal
+
+abbrev pub invariant-loop-i : goal.invariant-loop-i
+invariant-loop-i l = list_any (hides (rows_of l.nodes)) (lineage (ups_of l.nodes) l.fn.node) ≡ list_any (hides (rows_of l.nodes)) (chain (200 - l._i) (ups_of l.nodes) l.at)
