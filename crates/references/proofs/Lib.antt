@@ -1,4 +1,5 @@
 pub mod IdentifierText
+pub mod Indexed
 pub mod Issuing
 pub mod Finding
 pub mod References

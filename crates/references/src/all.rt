@@ -13,7 +13,7 @@ impl Known {
     /// The references of nodes of one document, in their order, under that kind, which is `Element`
     /// or `Shadow`: each as `hand_out` gives it. `Full` exactly where fewer serials are left than
     /// there are nodes without a reference, each counted once; then nothing changes. For each node
-    /// it goes over all that was handed out.
+    /// it takes one look into an index.
     pub fn hand_out_all(
         &mut self,
         kind: Kind,

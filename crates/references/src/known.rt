@@ -9,20 +9,22 @@ use crate::fault::IdFault;
 use crate::id::{Id, IdList};
 use crate::ids::{Full, Ids};
 use crate::kind::Kind;
-use crate::look::{entry_named, entry_with};
+use crate::look::{add_entry, entry_named, entry_with};
 use crate::name::{Entry, NodeName};
+use indexmap::IndexSet;
 use std::alloc::Global;
 use std::marker::Model;
 use wd_json::Memory;
 
-/// The references that a session handed out (W3C WebDriver, section 11, Elements): a plain list of
-/// entries. After `Memory` it is spent, and no call but `spent` may be made.
+/// The references that a session handed out (W3C WebDriver, section 11, Elements): entries in the order in
+/// which they were handed out, with an index by their names. After `Memory` it is spent, and no call but
+/// `spent` may be made.
 #[derive(Drop)]
 pub struct Known {
     alloc: Global,
     ids: Ids,
     first: u32,
-    entries: Vec<Entry>,
+    entries: IndexSet<Entry>,
     spent: bool,
 }
 
@@ -32,9 +34,9 @@ impl Model for Known {
 
     ghost Value = { Handed };
 
-    ghost view = { λ k. record { ids = k.ids; first = k.first; entries = k.entries.items; spent = k.spent } };
+    ghost view = { λ k. record { ids = k.ids; first = k.first; entries = k.entries.keys; spent = k.spent } };
 
-    ghost invariant = { λ k. AreIssued (record { ids = k.ids; first = k.first; entries = k.entries.items; spent = k.spent }) };
+    ghost invariant = { λ k. AreIssued (record { ids = k.ids; first = k.first; entries = k.entries.keys; spent = k.spent }) };
 }
 
 impl Known {
@@ -47,7 +49,7 @@ impl Known {
             alloc,
             ids,
             first,
-            entries: Vec::new(alloc),
+            entries: IndexSet::new(alloc),
             spent: false,
         }
     }
@@ -80,7 +82,7 @@ impl Known {
 
     /// The reference of a node under that kind, which is `Element` or `Shadow`: a name that is there
     /// keeps its own, and another takes the next serial. `Full` exactly where a new name would take
-    /// serial 2^32 - 1; then nothing changes. It goes over all that was handed out.
+    /// serial 2^32 - 1; then nothing changes. It costs one look into an index.
     #[tactic(auto, unfolding(crate::specs::Handed::handed))]
     pub fn hand_out(&mut self, kind: Kind, node: NodeName) -> Result<Id, IdFault>
         requires unspent { self.old.spent ≡ false }
@@ -95,19 +97,18 @@ impl Known {
         }
         let serial = self.ids.serial();
         let id = self.ids.next(kind)?;
-        if self
-            .entries
-            .push(Entry {
-                kind,
-                name: node,
-                serial,
-            })
-            .is_err()
-        {
-            self.spent = true;
-            return Err(IdFault::Memory);
+        let entry = Entry {
+            kind,
+            name: node,
+            serial,
+        };
+        match add_entry(&mut self.entries, entry) {
+            Ok(()) => Ok(id),
+            Err(Memory) => {
+                self.spent = true;
+                Err(IdFault::Memory)
+            }
         }
-        Ok(id)
     }
 
     /// The node that was handed out under that kind, which is `Element` or `Shadow`, with an
@@ -118,14 +119,13 @@ impl Known {
         requires node_kind { is_node_kind kind ≡ true }
         ensures { result ≡ name_with self.now kind text.now }
     {
-        match entry_with(&self.entries, &self.ids, kind, text) {
+        match entry_with(self.entries.as_slice(), &self.ids, kind, text) {
             Some(entry) => Some(entry.name),
             None => None,
         }
     }
 
-    /// Whether that name was handed out under that kind. It takes no memory, and goes over all that
-    /// was handed out.
+    /// Whether that name was handed out under that kind. It takes no memory, and one look into an index.
     pub fn holds(&self, kind: Kind, node: NodeName) -> bool
         requires unspent { self.now.spent ≡ false }
         ensures { result ≡ is_some (find (is_named kind node) self.now.entries) }
