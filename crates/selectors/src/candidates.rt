@@ -11,7 +11,9 @@ use page_tree::Document;
 use std::alloc::Global;
 use wd_json::{Memory, NodeId, NodeList};
 
-/// The nodes of a scope, in document order.
+/// The nodes of a scope, in document order: the document tree with its root, or what is below a node in
+/// the node's own tree, the node left out (Selectors Level 4, "scoping root"). `Memory` where there is
+/// none for the list. It goes over the scope once.
 pub fn in_scope(alloc: Global, document: &Document, scope: Scope) -> Result<NodeList, Memory>
     requires alive { document.now.spent ≡ false }
     requires scope_in { IsWithin document.now.rows scope }

@@ -29,6 +29,7 @@ mod steps;
 mod strings;
 mod texts;
 
+pub use candidates::in_scope;
 pub use fault::SelectorFault;
 pub use laws::{nth_is_exact, one_selector};
 pub use parsing::parse;
