@@ -1,0 +1,4 @@
+pub mod Parts
+pub mod RenderedText
+pub mod Writing
+pub mod Found

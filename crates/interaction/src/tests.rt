@@ -1,0 +1,3 @@
+mod finds;
+mod pages;
+mod texts;
