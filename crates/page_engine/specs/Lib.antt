@@ -4,6 +4,7 @@ pub mod Names
 pub mod Nodes
 pub mod Books
 pub mod Pages
+pub mod Links
 pub mod Sites
 pub mod Scene
 pub mod Effects

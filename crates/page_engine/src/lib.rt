@@ -24,6 +24,7 @@ mod parts;
 mod place;
 mod site;
 mod starting;
+mod target;
 mod values;
 
 pub use book::{Book, BookCell, BookCells, BookEntry, CellPairs, CellRefs};
@@ -38,6 +39,7 @@ pub use page_def::{
     AttrList, HandlerList, NodeDef, NodeDefList, NodeKind, PageDef, TimerDef, TimerList,
 };
 pub use site::{PageList, Site};
+pub use target::Target;
 
 #[cfg(test)]
 mod tests;
