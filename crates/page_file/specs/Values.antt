@@ -1,5 +1,5 @@
 -- The kinds of a JSON value that page files are made of.
-use Rattle.std.specs.Prelude.{ℕ, ℤ, ◌^◌, pos, nat_lt, Bool, List, [], ◌∷◌, Option, Some, None, if◌then◌else◌}
+use Rattle.std.specs.Prelude.{ℕ, ℤ, ◌^◌, ◌-◌, pos, nat_lt, Bool, List, [], ◌∷◌, Option, Some, None, if◌then◌else◌}
 use Rattle.std.specs.Option.{option_map, option_and_then}
 use Rattle.page_engine.specs.Fitting.{is_within, is_up_to, is_wait}
 use Rattle.page_tree.specs.declared.geometry.PixelBox.{PixelBox}
@@ -45,6 +45,15 @@ number_in v = None
 abbrev pub number_of : Json → Option ℕ
 number_of v = number_in (out-Json v)
 
+abbrev optional_number_in : {A : Type 0} → Json-F A → Option (Option ℕ)
+optional_number_in Json-F.Null = Some None
+optional_number_in (Json-F.Int (pos n)) = if nat_lt n (2 ^ 32) then Some (Some n) else None
+optional_number_in v = None
+
+-- a node or null
+abbrev pub optional_number_of : Json → Option (Option ℕ)
+optional_number_of v = optional_number_in (out-Json v)
+
 abbrev wait_in : {A : Type 0} → Json-F A → Option ℕ
 wait_in (Json-F.Int (pos n)) = if is_wait n then Some n else None
 wait_in v = None
@@ -60,6 +69,14 @@ within_in most v = None
 -- a number within plus or minus so much
 abbrev pub within_of : ℕ → Json → Option ℤ
 within_of most v = within_in most (out-Json v)
+
+abbrev whole_in : {A : Type 0} → Json-F A → Option ℤ
+whole_in (Json-F.Int z) = if is_within (2 ^ 53 - 1) z then Some z else None
+whole_in v = None
+
+-- a number within plus or minus 2^53 - 1
+abbrev pub whole_of : Json → Option ℤ
+whole_of v = whole_in (out-Json v)
 
 abbrev up_to_in : {A : Type 0} → ℕ → Json-F A → Option ℤ
 up_to_in most (Json-F.Int z) = if is_up_to most z then Some z else None

@@ -1,3 +1,5 @@
+mod sites;
+
 use crate::{EffectFault, effects_json, effects_of};
 use page_engine::{Effect, PromptKind, effects_fit};
 use std::alloc::Global;

@@ -1,7 +1,7 @@
 ghost use Rattle.std.specs.Prelude.{◌≡◌, ◌<◌, ◌^◌, IfSome, true};
 ghost use Rattle.std.specs.Option.{option_map};
 ghost use Rattle.page_engine.specs.Fitting.{is_within, is_up_to, is_box, is_box_or_none, is_wait};
-ghost use Rattle.page_file.specs.Values.{text_of, bool_of, list_of, number_of, wait_of, within_of, up_to_of, box_of, optional_box_of};
+ghost use Rattle.page_file.specs.Values.{text_of, bool_of, list_of, number_of, optional_number_of, wait_of, within_of, whole_of, up_to_of, box_of, optional_box_of};
 
 use page_tree::PixelBox;
 use wd_json::{Json, WdText};
@@ -43,6 +43,16 @@ pub fn as_number(value: &Json) -> Option<u32>
     }
 }
 
+/// A number of 32 bits, or null.
+pub fn as_optional_number(value: &Json) -> Option<Option<u32>>
+    ensures { result ≡ optional_number_of value.now }
+{
+    match value {
+        Json::Null => Some(None),
+        _ => Some(Some(as_number(value)?)),
+    }
+}
+
 /// Milliseconds that a timer may wait.
 pub fn as_wait(value: &Json) -> Option<u64>
     ensures same { result ≡ wait_of value.now }
@@ -62,6 +72,16 @@ pub fn as_within(value: &Json, most: u32) -> Option<i32>
 {
     match value {
         Json::Int(n) if n.unsigned_abs() <= u64::from(most) => Some(*n as i32),
+        _ => None,
+    }
+}
+
+/// A number within plus or minus 2^53 - 1.
+pub fn as_whole(value: &Json) -> Option<i64>
+    ensures { result ≡ whole_of value.now }
+{
+    match value {
+        Json::Int(n) if n.unsigned_abs() <= 9_007_199_254_740_991 => Some(*n),
         _ => None,
     }
 }

@@ -1,0 +1,89 @@
+ghost use Rattle.std.specs.Prelude.{◌≡◌, ◌≤◌, IfOk, IfErr, IfSome, length};
+ghost use Rattle.std.specs.Option.{option_map};
+ghost use Rattle.page_file.specs.Index.{IsIndexOf};
+ghost use Rattle.page_file.specs.Listings.{values_in, start_in, top_of, start_at, IsListingOf, IsListingCause};
+
+use crate::entries::{own_address, read_entries};
+use crate::listing::{Entry, Listing};
+use crate::members::{has_only, is_version};
+use crate::page_fault::PageFault;
+use crate::places::{Places, place_of};
+use crate::values::{as_list, as_text};
+use crate::why::Why;
+use std::alloc::Global;
+use wd_json::{Json, JsonMap, Memory, WdText};
+
+fn values(members: &JsonMap) -> Option<&[Json]>
+    ensures same { option_map (λ vs. vs.now) result ≡ values_in members.now }
+    ensures few { IfSome result (λ vs. length vs.now ≤ 1000) }
+{
+    let values = as_list(members.get("pages")?)?;
+    if 1 <= values.len() && values.len() <= 1000 {
+        Some(values)
+    } else {
+        None
+    }
+}
+
+fn start(members: &JsonMap) -> Option<&WdText>
+    ensures { option_map (λ t. t.now) result ≡ start_in members.now }
+{
+    as_text(members.get("start")?)
+}
+
+// The text of the start, and the values of the entries.
+fn top(value: &Json) -> Option<(&WdText, &[Json])>
+    ensures same { option_map (λ t. (t.0.now, t.1.now)) result ≡ top_of value.now }
+    ensures few { IfSome result (λ t. length t.1.now ≤ 1000) }
+{
+    let Json::Object(members) = value else {
+        return None;
+    };
+    if !has_only(&["pages", "start", "wdsite"], members) || !is_version("wdsite", members) {
+        return None;
+    }
+    Some((start(members)?, values(members)?))
+}
+
+// The place of the page that the text names.
+fn start_place(
+    alloc: Global,
+    entries: &[Entry],
+    places: &Places,
+    text: &WdText,
+) -> Result<Option<u32>, Memory>
+    requires { IsIndexOf entries.now places.now }
+    ensures { IfOk result (λ place. place ≡ start_at entries.now text.now) }
+{
+    let _ = entries;
+    match own_address(alloc, text.as_str())? {
+        Some(address) => Ok(place_of(places, address.as_str())),
+        None => Ok(None),
+    }
+}
+
+/// The listing that the value of a site's file spells, and the places of its pages by address.
+///
+/// `Bad` with the first thing that is wrong: `Shape` at row 0 for the top object; else `Address` at the first
+/// entry that isn't an address and a file's name, or whose address an earlier one has; else `Address` at the
+/// number of pages where the start is none of them.
+pub fn read_listing(alloc: Global, value: &Json) -> Result<(Listing, Places), PageFault>
+    ensures listing { IfOk result (λ p. IsListingOf value.now p.0) }
+    ensures index { IfOk result (λ p. IsIndexOf p.0.entries p.1) }
+    ensures cause { IfErr result (IsListingCause value.now) }
+{
+    let Some((text, values)) = top(value) else {
+        return Err(PageFault::Bad {
+            row: 0,
+            why: Why::Shape,
+        });
+    };
+    let (entries, places) = read_entries(alloc, values)?;
+    match start_place(alloc, entries.as_slice(), &places, text)? {
+        Some(start) => Ok((Listing { start, entries }, places)),
+        None => Err(PageFault::Bad {
+            row: values.len() as u32,
+            why: Why::Address,
+        }),
+    }
+}
