@@ -1,9 +1,10 @@
+use crate::files::in_memory;
 use std::alloc::Global;
 use std::process::Abort;
 use std::test::Fail;
-use wd_http::{BytesList, CallList, ListClock, MemoryLine, MemorySink, TimeList};
+use wd_http::{BytesList, CallList, ListClock, MemoryFiles, MemoryLine, MemorySink, TimeList};
 use wd_json::{WdBytes, WdText};
-use webdriverd::{NoFiles, NoScripts, webdriverd};
+use webdriverd::{NoScripts, webdriverd};
 
 /// What a run of the server left: its status, the bytes that were sent on the connections in order, how many
 /// readings were taken, and what was printed.
@@ -15,12 +16,26 @@ pub struct Outcome {
     pub printed: Vec<u8>,
 }
 
-/// Runs the server with these words on one connection on which these bytes come. A read or a write moves at
-/// most `most` bytes, and the call of the line with the number `failing` fails.
+/// As `run_over`, where there are no files.
 pub fn run(
     rt: &impl Abort,
     alloc: Global,
     words: &[&str],
+    bytes: &[u8],
+    most: usize,
+    failing: Option<u64>,
+) -> Result<Outcome, Fail> {
+    let mut files = in_memory(alloc, &[], None)?;
+    run_over(rt, alloc, words, &mut files, bytes, most, failing)
+}
+
+/// Runs the server with these words over these files on one connection on which these bytes come. A read or a write moves at
+/// most `most` bytes, and the call of the line with the number `failing` fails.
+pub fn run_over(
+    rt: &impl Abort,
+    alloc: Global,
+    words: &[&str],
+    files: &mut MemoryFiles,
     bytes: &[u8],
     most: usize,
     failing: Option<u64>,
@@ -42,7 +57,7 @@ pub fn run(
         alloc,
         &texts,
         7,
-        &mut NoFiles::new(),
+        files,
         &mut line,
         &mut ListClock::new(TimeList::new(alloc)),
         &mut NoScripts,

@@ -13,11 +13,9 @@ type Row = (&'static str, &'static str, &'static str);
 /// the check of their parameters, and no further.
 const UNBUILT: &[Row] = &[
     ("POST", "url", r#"{"url":"http://none.test/"}"#),
-    ("GET", "url", ""),
     ("POST", "back", "{}"),
     ("POST", "forward", "{}"),
     ("POST", "refresh", "{}"),
-    ("GET", "title", ""),
     ("GET", "window", ""),
     ("DELETE", "window", ""),
     ("POST", "window", r#"{"handle":"x"}"#),
@@ -30,33 +28,6 @@ const UNBUILT: &[Row] = &[
     ("POST", "frame", r#"{"id":65535}"#),
     ("POST", "frame/parent", "{}"),
     ("GET", "element/active", ""),
-    ("POST", "element", r#"{"using":"css selector","value":"a"}"#),
-    ("POST", "elements", r#"{"using":"tag name","value":"a"}"#),
-    (
-        "POST",
-        "element/00000000-0001-8002-8000-000100000002/element",
-        r#"{"using":"tag name","value":"a"}"#,
-    ),
-    (
-        "POST",
-        "element/00000000-0001-8002-8000-000100000002/elements",
-        r#"{"using":"tag name","value":"a"}"#,
-    ),
-    (
-        "POST",
-        "shadow/00000000-0001-8003-8000-000100000002/element",
-        r#"{"using":"tag name","value":"a"}"#,
-    ),
-    (
-        "POST",
-        "shadow/00000000-0001-8003-8000-000100000002/elements",
-        r#"{"using":"tag name","value":"a"}"#,
-    ),
-    (
-        "GET",
-        "element/00000000-0001-8002-8000-000100000002/shadow",
-        "",
-    ),
     (
         "GET",
         "element/00000000-0001-8002-8000-000100000002/selected",
@@ -75,11 +46,6 @@ const UNBUILT: &[Row] = &[
     (
         "GET",
         "element/00000000-0001-8002-8000-000100000002/css/display",
-        "",
-    ),
-    (
-        "GET",
-        "element/00000000-0001-8002-8000-000100000002/text",
         "",
     ),
     (
@@ -226,7 +192,7 @@ fn an_unbuilt_command_is_unsupported_once_its_parameters_pass(rt: HostRuntime) -
     asked.push_str(requests(alloc, UNBUILT)?.as_str())?;
     asked.push_str(requests(alloc, REFUSED)?.as_str())?;
     let mut expected = response(alloc, OK, OPENED)?;
-    expected.push_str(responses(alloc, 52, FAILED, UNSUPPORTED)?.as_str())?;
+    expected.push_str(responses(alloc, 42, FAILED, UNSUPPORTED)?.as_str())?;
     expected.push_str(responses(alloc, 34, BAD, INVALID)?.as_str())?;
     let found = run(&rt, alloc, &["pipe"], asked.as_bytes(), 4096, None)?;
     assert_eq!(rt; found.status, 0);
@@ -251,9 +217,9 @@ fn parameters_are_looked_at_in_order(rt: HostRuntime) -> Result<(), Fail> {
         (
             "POST",
             FIND,
-            "{\"using\":\"css selector\",\"value\":\"a\"}",
-            FAILED,
-            UNSUPPORTED,
+            "{\"using\":\"css selector\",\"value\":1}",
+            BAD,
+            INVALID,
         ),
         (
             "POST",

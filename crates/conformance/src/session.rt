@@ -20,10 +20,16 @@ const CHROMEDRIVER: &str =
 const NAME: &str =
     "/session/00000000-0001-8000-8000-000100000000/element/00000000-0001-8002-8000-000100000002/name";
 
+const TITLE: &str = "/session/00000000-0001-8000-8000-000100000000/title";
+
+const URL: &str = "/session/00000000-0001-8000-8000-000100000000/url";
+
 #[test]
 fn an_element_is_found_named_and_gone_with_its_session(rt: HostRuntime) -> Result<(), Fail> {
-    let turns: [Turn; 7] = [
+    let turns: [Turn; 9] = [
         ("POST", "/session", ANY, OK, OPENED),
+        ("GET", TITLE, "", OK, "{\"value\":\"Page\"}"),
+        ("GET", URL, "", OK, "{\"value\":\"http://page.test/\"}"),
         (
             "POST",
             FIND,

@@ -134,7 +134,7 @@ fn bad_words_are_refused(rt: HostRuntime) -> Result<(), Fail> {
     let rows: [&[&str]; 14] = [
         &[],
         &["pip"],
-        &["pipe", "pipe"],
+        &["pipe", "pipe", "pipe"],
         &["listen"],
         &["--help"],
         &["pipe", "--"],

@@ -1,4 +1,5 @@
-use crate::conversation::run;
+use crate::conversation::run_over;
+use crate::files::{Named, in_memory};
 use std::alloc::{AllocError, Global};
 use std::process::Abort;
 use std::test::Fail;
@@ -37,11 +38,22 @@ pub fn response(alloc: Global, status: &str, body: &str) -> Result<String, Alloc
     )
 }
 
-/// All of the requests on one connection, and all of the responses.
+/// All of the requests on one connection, and all of the responses, where there are no files.
 pub fn converse(
     rt: &impl Abort,
     alloc: Global,
     words: &[&str],
+    turns: &[Turn],
+) -> Result<(), Fail> {
+    converse_over(rt, alloc, words, &[], turns)
+}
+
+/// All of the requests on one connection, and all of the responses, over these files.
+pub fn converse_over(
+    rt: &impl Abort,
+    alloc: Global,
+    words: &[&str],
+    files: &[Named],
     turns: &[Turn],
 ) -> Result<(), Fail> {
     let mut asked = String::new(alloc);
@@ -50,7 +62,8 @@ pub fn converse(
         asked.push_str(request(alloc, method, target, body)?.as_str())?;
         expected.push_str(response(alloc, status, answer)?.as_str())?;
     }
-    let found = run(rt, alloc, words, asked.as_bytes(), 4096, None)?;
+    let mut files = in_memory(alloc, files, None)?;
+    let found = run_over(rt, alloc, words, &mut files, asked.as_bytes(), 4096, None)?;
     assert_eq!(rt; found.status, 0);
     assert_eq!(rt; found.sent.as_slice(), expected.as_bytes());
     assert_eq!(rt; found.taken, turns.len());

@@ -1,10 +1,13 @@
+pub mod AdvanceLaw
+pub mod AdvanceLemmas
 pub mod CheckLemmas
 pub mod CodeLemmas
+pub mod DueOrder
 pub mod LookupLemmas
 pub mod OpeningLemmas
-pub mod PageLemmas
 pub mod RunAtLemmas
 pub mod RunLemmas
 pub mod SessionLemmas
 pub mod StepLemmas
 pub mod TimeoutLemmas
+pub mod TitleLemmas

@@ -1,6 +1,7 @@
 -- A step of a command that ends at once.
-use Rattle.std.proofs.Common.{◌≡◌, ℕ, Err, [], ◌∷◌, ◌++◌, false, refl, sym, ◌∙◌, ap, subst}
+use Rattle.std.proofs.Common.{◌≡◌, ℕ, Ok, Err, [], ◌∷◌, ◌++◌, false, refl, sym, ◌∙◌, ap, subst}
 use Rattle.wd_http.specs.declared.request.Request.{Request}
+use Rattle.remote_end.specs.declared.order.Order.{Order}
 use Rattle.remote_end.specs.declared.reply.Reply.{Reply}
 use Rattle.remote_end.specs.declared.taken.Taken.TheVariants.{Reading}
 use Rattle.remote_end.specs.Setting.{Setting}
@@ -9,7 +10,7 @@ use Rattle.remote_end.specs.Plan.{Plan, Turn, at_once}
 use Rattle.remote_end.specs.Replies.{failure}
 use Rattle.remote_end.specs.Meaning.{Means}
 use Rattle.wd_errors.specs.declared.code.Code.{Code}
-use Rattle.remote_end.specs.Step.{Now, Steps, RepliesAt, Plays}
+use Rattle.remote_end.specs.Step.{Now, Steps, ActsAt, RepliesAt, Plays}
 use Rattle.remote_end.specs.Standing.{Standing}
 use Rattle.remote_end.specs.Runs.{Answers}
 
@@ -23,6 +24,8 @@ step_at setting old new request reading reply r =
       meaning = r.meaning;
       means = r.means;
       reading = reading;
+      turn = r.turn;
+      turn_is = r.turn_is;
       asked = [];
       rests = [];
       plan = plan;
@@ -53,5 +56,12 @@ pub refused_at : (setting : Setting) (state : State) (request : Request) (readin
 refused_at setting state request reading code reply means reply_is = record {
   meaning = Err code;
   means = means;
+  turn = at_once (failure code) Same;
+  turn_is = refl;
   ends = record { after = Same; turn_is = ap (λ (r : Reply). at_once r Same) (sym reply_is); new_is = refl };
 }
+
+-- a request that is a command
+pub acted_at : (setting : Setting) (old new : State) (request : Request) (reading : ℕ) (order : Order) (reply : Reply)
+    → Means old request (Ok order) → ActsAt setting old order reading new reply → RepliesAt setting old request reading new reply
+acted_at setting old new request reading order reply means a = record { meaning = Ok order; means = means; turn = a.turn; turn_is = a.turn_is; ends = a.ends }

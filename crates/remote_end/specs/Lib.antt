@@ -1,13 +1,16 @@
 pub mod Setting
 pub mod State
 pub mod Moments
+pub mod Advance
 pub mod Plan
 pub mod Values
 pub mod Replies
 pub mod Built
 pub mod Meaning
-pub mod BuiltIn
 pub mod Elements
+pub mod Handing
+pub mod Finds
+pub mod Titles
 pub mod Opening
 pub mod Rows
 pub mod Step

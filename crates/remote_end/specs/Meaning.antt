@@ -46,8 +46,7 @@ Refuses state route body SessionLimit code = (route.command ≡ NewSession) × (
 Refuses state route body GoodParameters code =
     (members : Members) × IsObjectFor route.command body members × (refusal_in route.command members ≡ Some code)
 -- its row isn't built
-Refuses state route body BuiltRow code =
-    (parameters : Json) × IsParametersOf route body parameters × (is_built route.command parameters ≡ false) × (code ≡ UnsupportedOperation)
+Refuses state route body BuiltRow code = (is_built route.command ≡ false) × (code ≡ UnsupportedOperation)
 
 abbrev pub Passes : State → Route → List ℕ → Check → Type 0
 Passes state route body check = (code : Code) → Refuses state route body check code → ⊥

@@ -1,11 +1,8 @@
 -- The next moments of a command that waits, and how the session stands at them.
-use Rattle.std.specs.Prelude.{ℕ, ◌^◌, min, max, List, [], ◌∷◌, Option, Some, None, nat_lt, if◌then◌else◌}
+use Rattle.std.specs.Prelude.{ℕ, min, max, List, [], ◌∷◌, Option, Some, None, nat_lt, if◌then◌else◌}
+use Rattle.waits.specs.Moments.{last_moment}
 use Rattle.remote_end.specs.declared.session.Session.{Session}
 use Rattle.remote_end.specs.Plan.{Stage}
-
--- no command starts later
-abbrev pub last_moment : ℕ
-last_moment = 2 ^ 62
 
 -- the moment at which a command starts that is begun with a reading: of its session, or without one
 abbrev pub start_of : Option Session → ℕ → ℕ

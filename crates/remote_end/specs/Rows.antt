@@ -1,5 +1,5 @@
 -- The rows of the table of commands: what each command does.
-use Rattle.std.specs.Prelude.{ℕ, List, [], Option, Some, None, Result, Ok, Err, codes}
+use Rattle.std.specs.Prelude.{◌≡◌, ℕ, List, [], Option, Some, None, Result, Ok, Err, codes}
 use Rattle.std.specs.Option.{unwrap_or, option_map_or}
 use Rattle.std.specs.Str.{encode_utf8_all}
 use Rattle.capabilities.specs.Processed.{processed}
@@ -8,28 +8,32 @@ use Rattle.capabilities.specs.declared.matched.Matched.{Matched}
 use Rattle.capabilities.specs.declared.timeouts.Timeouts.{Timeouts}
 use Rattle.capabilities.specs.declared.fault.CapFault.{CapFault}
 use Rattle.endpoints.specs.declared.command.Command.{Command}
-use Rattle.endpoints.specs.declared.command.Command.TheVariants.{Status, NewSession, DeleteSession, GetTimeouts, SetTimeouts, FindElement, GetElementTagName}
+use Rattle.endpoints.specs.declared.command.Command.TheVariants.{Status, NewSession, DeleteSession, GetTimeouts, SetTimeouts, GetCurrentUrl, GetTitle, FindElement, FindElements, FindElementFromElement, FindElementsFromElement, FindElementFromShadowRoot, FindElementsFromShadowRoot, GetElementShadowRoot, GetElementTagName, GetElementText}
+use Rattle.interaction.specs.RenderedText.{rendered_text}
+use Rattle.page_tree.specs.Places.{shadow_of}
 use Rattle.page_tree.specs.Rows.{Rows, tag_of}
-use Rattle.references.specs.Handed.{Handed, handed}
+use Rattle.references.specs.Handed.{handed}
 use Rattle.references.specs.HandedAll.{named}
-use Rattle.references.specs.Identifier.{Identifier}
-use Rattle.references.specs.declared.kind.Kind.TheVariants.{Element}
+use Rattle.references.specs.declared.kind.Kind.TheVariants.{Element, Shadow}
 use Rattle.references.specs.declared.name.NodeName.{NodeName}
 use Rattle.wd_errors.specs.declared.code.Code.{Code}
-use Rattle.wd_errors.specs.declared.code.Code.TheVariants.{InvalidArgument, NoSuchElement, UnknownError, UnsupportedOperation}
+use Rattle.wd_errors.specs.declared.code.Code.TheVariants.{InvalidArgument, NoSuchShadowRoot, UnsupportedOperation}
 use Rattle.wd_json.specs.declared.json.Json.{Json}
 use Rattle.wd_json.specs.declared.json.Json.TheVariants.{Null, Text}
 use Rattle.remote_end.specs.declared.order.Order.{Order}
 use Rattle.remote_end.specs.declared.session.Session.{Session}
 use Rattle.remote_end.specs.Setting.{Setting}
-use Rattle.remote_end.specs.State.{State, is_full, session_named, Same, Leaves, Ends, Opens}
+use Rattle.remote_end.specs.State.{State, is_full, Same, Leaves, Ends, Opens}
 use Rattle.remote_end.specs.Plan.{Turn, at_once}
-use Rattle.remote_end.specs.Moments.{start_of}
-use Rattle.remote_end.specs.Built.{text_at}
-use Rattle.remote_end.specs.Elements.{found, looked_up, current_document}
+use Rattle.selectors.specs.declared.selector.Scope.TheVariants.{Document}
+use Rattle.remote_end.specs.declared.finds.Wanted.TheVariants.{First, All}
+use Rattle.remote_end.specs.Elements.{looked_up, current_document}
+use Rattle.remote_end.specs.Finds.{IsFind, IsFindFrom}
+use Rattle.remote_end.specs.Handing.{with_reference}
 use Rattle.remote_end.specs.Opening.{opened, session_value, fault_code}
 use Rattle.remote_end.specs.Replies.{success, failure}
-use Rattle.remote_end.specs.Values.{status_value, reference_value}
+use Rattle.remote_end.specs.Titles.{title_of}
+use Rattle.remote_end.specs.Values.{status_value}
 
 -- ---- commands without a session
 
@@ -43,7 +47,8 @@ turn_alone setting state parameters reading Status = at_once (success (status_va
 turn_alone setting state parameters reading NewSession = new_session setting state reading (processed setting.name parameters)
 turn_alone setting state parameters reading command = at_once (failure UnsupportedOperation) Same
 
--- ---- commands of a session, which stands at its command's start
+-- ---- commands of a session, which stands at its command's start. A session has one window and no prompts so
+-- far: the checks of the window and of prompts come before these rows, and always pass.
 
 abbrev pub timeouts_turn : Session → Turn
 timeouts_turn s = at_once (success (timeouts_object s.matched.timeouts)) (Leaves s)
@@ -56,14 +61,25 @@ abbrev pub set_timeouts_turn : Session → Option Timeouts → Turn
 set_timeouts_turn s None = at_once (failure InvalidArgument) (Leaves s)
 set_timeouts_turn s (Some timeouts) = at_once (success Null) (Leaves (with_timeouts s timeouts))
 
--- the reference of a node; too few serials are left where there is none
-abbrev pub with_reference : Session → Option (Identifier × Handed) → Turn
-with_reference s None = at_once (failure UnknownError) (Leaves s)
-with_reference s (Some (id, known)) = at_once (success (reference_value id)) (Leaves (record s { known = known }))
+-- the serialised address of the document
+abbrev pub url_turn : Session → Turn
+url_turn s = at_once (success (Text s.page.address)) (Leaves s)
 
-abbrev pub find_turn : Session → Option ℕ → Turn
-find_turn s None = at_once (failure NoSuchElement) (Leaves s)
-find_turn s (Some node) = with_reference s (handed s.known Element (named current_document node))
+abbrev pub title_turn : Session → Turn
+title_turn s = at_once (success (Text (title_of s.page.rows))) (Leaves s)
+
+-- the reference of a host's shadow root
+abbrev pub root_turn : Session → Option ℕ → Turn
+root_turn s None = at_once (failure NoSuchShadowRoot) (Leaves s)
+root_turn s (Some root) = with_reference Shadow s (handed s.known Shadow (named current_document root))
+
+abbrev pub shadow_turn : Session → Result NodeName Code → Turn
+shadow_turn s (Err code) = at_once (failure code) (Leaves s)
+shadow_turn s (Ok name) = root_turn s (shadow_of s.page.rows.shadows name.node)
+
+abbrev pub text_turn : Session → Result NodeName Code → Turn
+text_turn s (Err code) = at_once (failure code) (Leaves s)
+text_turn s (Ok name) = at_once (success (Text (rendered_text s.page.rows name.node))) (Leaves s)
 
 -- the characters of a tag, as it was given
 abbrev pub tag_at : Rows → ℕ → List ℕ
@@ -73,31 +89,33 @@ abbrev pub tag_name_turn : Session → Result NodeName Code → Turn
 tag_name_turn s (Err code) = at_once (failure code) (Leaves s)
 tag_name_turn s (Ok name) = at_once (success (Text (tag_at s.page.rows name.node))) (Leaves s)
 
--- what stands in the path for the element
+-- what stands in the path for the element or the shadow root
 abbrev pub item_of : Order → List ℕ
 item_of order = option_map_or encode_utf8_all order.route.item []
 
-abbrev pub value_in : Json → List ℕ
-value_in parameters = unwrap_or (text_at (codes "value") parameters) []
+abbrev pub element_in : Order → Session → Result NodeName Code
+element_in order s = looked_up Element s (item_of order)
+
+abbrev pub shadow_in : Order → Session → Result NodeName Code
+shadow_in order s = looked_up Shadow s (item_of order)
 
 unfoldable pub turn_in : Order → Session → Command → Turn
 turn_in order s DeleteSession = at_once (success Null) Ends
 turn_in order s GetTimeouts = timeouts_turn s
 turn_in order s SetTimeouts = set_timeouts_turn s (timeouts_in order.parameters s.matched.timeouts)
-turn_in order s FindElement = find_turn s (found s.page.rows (value_in order.parameters))
-turn_in order s GetElementTagName = tag_name_turn s (looked_up s (item_of order))
+turn_in order s GetCurrentUrl = url_turn s
+turn_in order s GetTitle = title_turn s
+turn_in order s GetElementShadowRoot = shadow_turn s (element_in order s)
+turn_in order s GetElementTagName = tag_name_turn s (element_in order s)
+turn_in order s GetElementText = text_turn s (element_in order s)
 turn_in order s command = at_once (failure UnsupportedOperation) (Leaves s)
 
--- ---- all of them
-
--- the session, advanced to the start of a command that is begun with a reading
-abbrev pub at_start : Session → ℕ → Session
-at_start s reading = record s { at = start_of (Some s) reading }
-
-abbrev pub turn_on : Setting → State → Order → ℕ → Option Session → Turn
-turn_on setting state order reading None = turn_alone setting state order.parameters reading order.route.command
-turn_on setting state order reading (Some s) = turn_in order (at_start s reading) order.route.command
-
--- a command, in a state, with its start reading
-abbrev pub turn_of : Setting → State → Order → ℕ → Turn
-turn_of setting state order reading = turn_on setting state order reading (session_named order.route.session state.sessions)
+-- What a command of a session does: a find what it finds by the grammar of selectors, and any other one thing.
+unfoldable pub IsTurnIn : Order → Session → Command → Turn → Type 0
+IsTurnIn order s FindElement turn = IsFind First s Document order.parameters turn
+IsTurnIn order s FindElements turn = IsFind All s Document order.parameters turn
+IsTurnIn order s FindElementFromElement turn = IsFindFrom First s (element_in order s) order.parameters turn
+IsTurnIn order s FindElementsFromElement turn = IsFindFrom All s (element_in order s) order.parameters turn
+IsTurnIn order s FindElementFromShadowRoot turn = IsFindFrom First s (shadow_in order s) order.parameters turn
+IsTurnIn order s FindElementsFromShadowRoot turn = IsFindFrom All s (shadow_in order s) order.parameters turn
+IsTurnIn order s command turn = turn ≡ turn_in order s command

@@ -1,6 +1,7 @@
 -- What a remote end stands for, and what it took of the outside.
 use Rattle.std.specs.Prelude.{◌≡◌, ◌≤◌, ℕ, List, [], ◌∷◌, Bool, false, length}
 use Rattle.std.specs.List.{All}
+use Rattle.page_engine.specs.declared.site.Site.{Site}
 use Rattle.remote_end.specs.declared.taken.Taken.{Taken}
 use Rattle.remote_end.specs.declared.taken.Taken.TheVariants.{Reading}
 use Rattle.remote_end.specs.declared.session.Session.{Session}
@@ -16,9 +17,9 @@ pub record Standing : Type 0 where
   pub spent : Bool
 
 -- before the first request
-abbrev pub initial : List ℕ → ℕ → Standing
-initial name run = record {
-  setting = record { name = name; run = run };
+abbrev pub initial : Site → List ℕ → ℕ → Standing
+initial site name run = record {
+  setting = record { site = site; name = name; run = run };
   state = first_state;
   taken = [];
   spent = false;

@@ -10,9 +10,10 @@ use Rattle.remote_end.specs.Setting.{Setting}
 use Rattle.remote_end.specs.State.{State, After, Same, Leaves, Ends, Opens, session_named, changed}
 use Rattle.remote_end.specs.Plan.{Stage, Plan, Turn, Done, Asks, at_once}
 use Rattle.remote_end.specs.Moments.{start_of, next_after}
+use Rattle.remote_end.specs.Advance.{Advanced}
 use Rattle.remote_end.specs.Replies.{failure}
 use Rattle.remote_end.specs.Meaning.{Means}
-use Rattle.remote_end.specs.Rows.{turn_of, turn_in, at_start}
+use Rattle.remote_end.specs.Rows.{turn_alone, IsTurnIn}
 
 -- A call of the outside: a reading of the clock, the answer to a script, or a rest that asked for a moment
 -- and what the clock then read.
@@ -34,10 +35,17 @@ Rests stages reached (Rest asked answer ∷ calls) =
 Rests stages reached (Now answer ∷ calls) = ⊥
 Rests stages reached (Script asked answer ∷ calls) = ⊥
 
--- what a request does that is begun with a reading
-abbrev pub turn_for : Setting → State → Result Order Code → ℕ → Turn
-turn_for setting state (Ok order) reading = turn_of setting state order reading
-turn_for setting state (Err code) reading = at_once (failure code) Same
+-- What a command does that is begun with a reading, without a session or of the session that it names, which
+-- first advances to the command's start.
+abbrev pub IsTurnOf : Setting → State → Order → ℕ → Option Session → Turn → Type 0
+IsTurnOf setting state order reading None turn = turn ≡ turn_alone setting state order.parameters reading order.route.command
+IsTurnOf setting state order reading (Some s) turn =
+    (begun : Session) × Advanced s (start_of (Some s) reading) begun × IsTurnIn order begun order.route.command turn
+
+-- what a request does that is begun with a reading; one that is refused advances no session
+abbrev pub IsTurnFor : Setting → State → Result Order Code → ℕ → Turn → Type 0
+IsTurnFor setting state (Ok order) reading turn = IsTurnOf setting state order reading (session_named order.route.session state.sessions) turn
+IsTurnFor setting state (Err code) reading turn = turn ≡ at_once (failure code) Same
 
 -- the session that a command names
 abbrev pub own : Result Order Code → Option (List ℕ)
@@ -52,9 +60,11 @@ pub record Step (setting : Setting) (old : State) (request : Request) (calls : L
   pub reading : ℕ
   pub asked : List Call
   pub rests : List Call
+  pub turn : Turn
+  pub turn_is : IsTurnFor setting old meaning reading turn
   pub plan : Plan
   pub calls_are : calls ≡ Now reading ∷ asked ++ rests
-  pub plays : Plays (turn_for setting old meaning reading) asked plan
+  pub plays : Plays turn asked plan
   pub waits : Rests plan.stages (start_of (session_named (own meaning) old.sessions) reading) rests
   pub reply_is : reply ≡ plan.reply
   pub new_is : new ≡ changed old (own meaning) plan.after
@@ -75,7 +85,15 @@ pub record EndsWith (turn : Turn) (old : State) (named : Option (List ℕ)) (new
 pub record RepliesAt (setting : Setting) (old : State) (request : Request) (reading : ℕ) (new : State) (reply : Reply) : Type 0 where
   pub meaning : Result Order Code
   pub means : Means old request meaning
-  pub ends : EndsWith (turn_for setting old meaning reading) old (own meaning) new reply
+  pub turn : Turn
+  pub turn_is : IsTurnFor setting old meaning reading turn
+  pub ends : EndsWith turn old (own meaning) new reply
+
+-- a command, begun with a reading, ends at once
+pub record ActsAt (setting : Setting) (old : State) (order : Order) (reading : ℕ) (new : State) (reply : Reply) : Type 0 where
+  pub turn : Turn
+  pub turn_is : IsTurnOf setting old order reading (session_named order.route.session old.sessions) turn
+  pub ends : EndsWith turn old order.route.session new reply
 
 -- the open sessions after a command of the one at that place
 abbrev pub AreLeft : List Session → ℕ → List Session → After → Type 0
@@ -88,6 +106,8 @@ AreLeft old place new (Opens s) = ⊥
 pub record RunsAt (order : Order) (reading : ℕ) (old : List Session) (place : ℕ) (new : List Session) (reply : Reply) : Type 0 where
   pub session : Session
   pub here : slice_get old place ≡ Some session
+  pub begun : Session
+  pub advanced : Advanced session (start_of (Some session) reading) begun
   pub after : After
-  pub turn_is : turn_in order (at_start session reading) order.route.command ≡ at_once reply after
+  pub turn_is : IsTurnIn order begun order.route.command (at_once reply after)
   pub left : AreLeft old place new after

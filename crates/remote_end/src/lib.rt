@@ -3,11 +3,14 @@
 //! the capabilities, references and page of each session, and on the clock that is lent to it.
 #![tactic(auto)]
 
+mod advance;
 mod built;
-mod built_in;
 mod elements;
 mod evaluator;
+mod finds;
+mod handing;
 mod laws;
+mod lookups;
 mod meaning;
 mod opening;
 mod order;
@@ -16,16 +19,15 @@ mod reply;
 mod rows;
 mod run;
 mod session;
-mod site;
 mod status;
 mod taken;
 mod timeouts;
+mod titles;
 
 pub use evaluator::Evaluator;
-pub use laws::lookups_are_exact;
+pub use laws::{advances_to_one, lookups_are_exact};
 pub use remote::Remote;
 pub use reply::{Reply, bad_reply};
-pub use site::Site;
 pub use taken::{Taken, TakenList};
 
 #[cfg(test)]

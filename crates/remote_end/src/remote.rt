@@ -3,16 +3,17 @@ ghost use Rattle.remote_end.specs.Step.{RepliesAt};
 ghost use Rattle.remote_end.specs.declared.taken.Taken.TheVariants.{Reading};
 ghost use Rattle.remote_end.specs.Standing.{initial};
 ghost use Rattle.remote_end.specs.Runs.{Answers};
+ghost use Rattle.page_engine.specs.Sites.{IsLawfulSite};
 ghost use Rattle.wd_http.specs.Sent.{is_status};
 
 use crate::evaluator::Evaluator;
 use crate::reply::Reply;
 use crate::run::respond;
 use crate::session::Session;
-use crate::site::Site;
 use crate::taken::{Taken, TakenList};
 use capabilities::Offer;
 use endpoints::Endpoints;
+use page_engine::Site;
 use std::alloc::Global;
 use std::marker::Model;
 use wd_http::{Clock, Request};
@@ -37,28 +38,31 @@ impl Model for Remote {
     ghost use Rattle.std.specs.Prelude.{◌≡◌, ◌<◌, ◌^◌, false};
     ghost use Rattle.remote_end.specs.Standing.{Standing, AreSound};
     ghost use Rattle.std.specs.Coded.{codes};
+    ghost use Rattle.page_engine.specs.Sites.{IsLawfulSite};
+    ghost use Rattle.page_engine.specs.contracts.effect.Effect as effect;
     ghost use Rattle.wd_json.specs.contracts.json.Json as json;
 
     ghost Value = { Standing };
 
-    ghost coded = { Prim.hlevel (codes, json.the_row.coded) };
+    ghost coded = { Prim.hlevel (codes, json.the_row.coded, effect.the_row.coded) };
 
     ghost view = { λ r. record {
-      setting = record { name = r.offer.name; run = r.run };
+      setting = record { site = r.site; name = r.offer.name; run = r.run };
       state = record { next = r.next; sessions = r.sessions.items };
       taken = r.taken;
       spent = r.spent;
     } };
 
-    ghost invariant = { λ r. (r.run < 2 ^ 48) × (r.spent ≡ false → AreSound r.sessions.items) };
+    ghost invariant = { λ r. IsLawfulSite r.site × (r.run < 2 ^ 48) × (r.spent ≡ false → AreSound r.sessions.items) };
 }
 
 impl Remote {
-    /// A remote end without sessions, over these pages. `name` is the name of its browser, and `run` the
+    /// A remote end without sessions, over the pages of a site. `name` is the name of its browser, and `run` the
     /// number of the run, below 2^48. `Memory` where there is no memory for it.
     pub fn new(alloc: Global, site: Site, name: WdText, run: u64) -> Result<Remote, Memory>
-        requires { run < 2 ^ 48 }
-        ensures { IfOk result (λ remote. remote ≡ initial name run) }
+        requires lawful { IsLawfulSite site }
+        requires run_small { run < 2 ^ 48 }
+        ensures { IfOk result (λ remote. remote ≡ initial site name run) }
     {
         Ok(Remote {
             alloc,
@@ -129,6 +133,7 @@ impl Remote {
         let reply = respond(
             self.alloc,
             &self.endpoints,
+            &self.site,
             &self.offer,
             self.run,
             &mut self.next,

@@ -1,89 +1,29 @@
 ghost use Rattle.std.specs.Prelude.{◌≡◌, ◌≢◌, ◌<◌, false, IsTrue, IfOk, OnOk};
-ghost use Rattle.std.specs.Str.{IsAscii};
 ghost use Rattle.page_tree.specs.Rows.{count};
 ghost use Rattle.endpoints.specs.declared.command.Command.TheVariants.{DeleteSession};
+ghost use Rattle.references.specs.declared.kind.Kind.TheVariants.{Element};
 ghost use Rattle.wd_http.specs.Sent.{is_status};
 ghost use Rattle.remote_end.specs.State.{Leaves, IsWhole};
 ghost use Rattle.remote_end.specs.Plan.{at_once};
-ghost use Rattle.remote_end.specs.Moments.{start_of};
-ghost use Rattle.remote_end.specs.Elements.{found, looked_up};
-ghost use Rattle.remote_end.specs.Rows.{find_turn, tag_name_turn, tag_at, item_of, value_in, turn_in, at_start};
-ghost use Rattle.remote_end.specs.Values.{element_key, reference_value};
+ghost use Rattle.remote_end.specs.Elements.{looked_up};
+ghost use Rattle.remote_end.specs.Rows.{tag_name_turn, text_turn, shadow_turn, tag_at, item_of, IsTurnIn, url_turn, title_turn};
 
-use crate::built::text_at;
-use crate::elements::{found, looked_up};
-use crate::opening::LAST_MOMENT;
+use crate::finds::{Wanted, find_from, find_in};
+use crate::handing::handed_reply;
+use crate::lookups::looked_up;
 use crate::order::Order;
-use crate::reply::{Reply, failure, put_member, success};
+use crate::reply::{Reply, failure, success};
 use crate::session::Session;
 use crate::timeouts::{get_timeouts, set_timeouts};
+use crate::titles::title;
 use endpoints::Command;
+use interaction::rendered_text;
 use page_tree::Document;
-use references::{Id, IdFault, Kind, NodeName, id_text};
+use references::Kind;
+use selectors::Scope;
 use std::alloc::Global;
 use wd_errors::Code;
-use wd_json::{Json, JsonMap, Memory, NodeId, WdText};
-
-/// The name of the one member of a reference to an element.
-#[tactic(auto, unfolding(crate::specs::Values::element_key))]
-fn element_key() -> &'static str
-    ensures text { result.now ≡ element_key }
-    ensures ascii { IsAscii result.now }
-{
-    "element-6066-11e4-a52e-4f735466cecf"
-}
-
-/// A reference to an element (Recommendation, section 11).
-#[tactic(auto, unfolding(crate::specs::Values::reference_value))]
-fn reference_value(alloc: Global, id: Id) -> Result<Json, Memory>
-    ensures { IfOk result (λ value. value ≡ reference_value id) }
-{
-    let mut map = JsonMap::new(alloc);
-    let text = id_text(alloc, id)?;
-    put_member(&mut map, alloc, element_key(), Json::Text(text))?;
-    Ok(Json::Object(map))
-}
-
-/// Hands a node out that was found.
-fn found_reply(alloc: Global, session: &mut Session, node: NodeId) -> Result<Reply, Memory>
-    requires { IsWhole session.old }
-    ensures turn { IfOk result (λ reply. find_turn session.old (Some node) ≡ at_once reply (Leaves session.new)) }
-    ensures whole { OnOk result (IsWhole session.new) }
-    ensures status { IfOk result (λ reply. IsTrue (is_status reply.status)) }
-{
-    let name = NodeName {
-        document: 0,
-        node: node.number(),
-    };
-    match session.known.hand_out(Kind::Element, name) {
-        Ok(id) => success(alloc, reference_value(alloc, id)?),
-        Err(IdFault::Full) => failure(alloc, Code::UnknownError),
-        Err(IdFault::Memory) => Err(Memory),
-    }
-}
-
-/// The value of a find.
-fn value_in(parameters: &Json) -> &str
-    ensures { result.now ≡ value_in parameters.now }
-{
-    match text_at(parameters, "value") {
-        Some(value) => value,
-        None => "",
-    }
-}
-
-/// Find Element by tag name (Recommendation, section 12.2).
-fn find_element(alloc: Global, session: &mut Session, parameters: &Json) -> Result<Reply, Memory>
-    requires { IsWhole session.old }
-    ensures turn { IfOk result (λ reply. find_turn session.old (found session.old.page.rows (value_in parameters.now)) ≡ at_once reply (Leaves session.new)) }
-    ensures whole { OnOk result (IsWhole session.new) }
-    ensures status { IfOk result (λ reply. IsTrue (is_status reply.status)) }
-{
-    match found(&session.page, value_in(parameters))? {
-        Some(node) => found_reply(alloc, session, node),
-        None => failure(alloc, Code::NoSuchElement),
-    }
-}
+use wd_json::{Json, Memory, NodeId, WdText};
 
 /// The tag of an element that was looked up.
 fn tag_at(alloc: Global, page: &Document, node: u32) -> Result<WdText, Memory>
@@ -97,7 +37,7 @@ fn tag_at(alloc: Global, page: &Document, node: u32) -> Result<WdText, Memory>
     }
 }
 
-/// What stands in the path for the element.
+/// What stands in the path for the element or the shadow root.
 fn item_of(order: &Order) -> &str
     ensures { result.now ≡ item_of order.now }
 {
@@ -110,53 +50,100 @@ fn item_of(order: &Order) -> &str
 /// Get Element Tag Name (Recommendation, section 13.6).
 fn tag_name(alloc: Global, session: &Session, item: &str) -> Result<Reply, Memory>
     requires { IsWhole session.now }
-    ensures turn { IfOk result (λ reply. tag_name_turn session.now (looked_up session.now item.now) ≡ at_once reply (Leaves session.now)) }
+    ensures turn { IfOk result (λ reply. tag_name_turn session.now (looked_up Element session.now item.now) ≡ at_once reply (Leaves session.now)) }
     ensures status { IfOk result (λ reply. IsTrue (is_status reply.status)) }
 {
-    match looked_up(session, item) {
-        Ok(name) => success(alloc, Json::Text(tag_at(alloc, &session.page, name.node)?)),
+    match looked_up(session, Kind::Element, item) {
+        Ok(name) => success(
+            alloc,
+            Json::Text(tag_at(alloc, session.page.document(), name.node)?),
+        ),
         Err(code) => failure(alloc, code),
     }
 }
 
-/// Advances a session to the start of a command that is begun with a reading.
-fn start(session: &mut Session, reading: u64)
-    ensures { session.new ≡ at_start session.old reading }
-{
-    session.at = session.at.max(reading).min(LAST_MOMENT);
-}
-
-/// A command of a session that doesn't end it.
-#[tactic(auto, unfolding(crate::specs::Rows::turn_in))]
-fn row(alloc: Global, session: &mut Session, order: &Order) -> Result<Reply, Memory>
-    requires whole { IsWhole session.old }
-    requires stays { order.now.route.command ≢ DeleteSession }
-    ensures turn { IfOk result (λ reply. turn_in order.now session.old order.now.route.command ≡ at_once reply (Leaves session.new)) }
-    ensures whole { OnOk result (IsWhole session.new) }
+/// Get Element Text (Recommendation, section 13.5).
+fn text(alloc: Global, session: &Session, item: &str) -> Result<Reply, Memory>
+    requires { IsWhole session.now }
+    ensures turn { IfOk result (λ reply. text_turn session.now (looked_up Element session.now item.now) ≡ at_once reply (Leaves session.now)) }
     ensures status { IfOk result (λ reply. IsTrue (is_status reply.status)) }
 {
-    match order.route.command {
-        Command::GetTimeouts => get_timeouts(alloc, session),
-        Command::SetTimeouts => set_timeouts(alloc, session, &order.parameters),
-        Command::FindElement => find_element(alloc, session, &order.parameters),
-        Command::GetElementTagName => tag_name(alloc, session, item_of(order)),
-        _ => failure(alloc, Code::UnsupportedOperation),
+    match looked_up(session, Kind::Element, item) {
+        Ok(name) => {
+            let text = rendered_text(alloc, session.page.document(), NodeId::of(name.node))?;
+            success(alloc, Json::Text(text))
+        }
+        Err(code) => failure(alloc, code),
     }
 }
 
-/// A command of a session that doesn't end it, begun with a reading.
-pub(crate) fn serve(
-    alloc: Global,
-    session: &mut Session,
-    order: &Order,
-    reading: u64,
-) -> Result<Reply, Memory>
-    requires whole { IsWhole session.old }
-    requires stays { order.now.route.command ≢ DeleteSession }
-    ensures turn { IfOk result (λ reply. turn_in order.now (at_start session.old reading) order.now.route.command ≡ at_once reply (Leaves session.new)) }
+/// Get Element Shadow Root (WebDriver Level 2, section 12.3.9).
+fn shadow_root(alloc: Global, session: &mut Session, item: &str) -> Result<Reply, Memory>
+    requires { IsWhole session.old }
+    ensures turn { IfOk result (λ reply. shadow_turn session.old (looked_up Element session.old item.now) ≡ at_once reply (Leaves session.new)) }
     ensures whole { OnOk result (IsWhole session.new) }
     ensures status { IfOk result (λ reply. IsTrue (is_status reply.status)) }
 {
-    start(session, reading);
-    row(alloc, session, order)
+    match looked_up(session, Kind::Element, item) {
+        Ok(name) => match session.page.document().shadow_of(NodeId::of(name.node)) {
+            Some(root) => handed_reply(alloc, session, Kind::Shadow, root),
+            None => failure(alloc, Code::NoSuchShadowRoot),
+        },
+        Err(code) => failure(alloc, code),
+    }
+}
+
+/// Get Current URL (Recommendation, section 9.2).
+fn current_url(alloc: Global, session: &Session) -> Result<Reply, Memory>
+    requires { IsWhole session.now }
+    ensures turn { IfOk result (λ reply. url_turn session.now ≡ at_once reply (Leaves session.now)) }
+    ensures status { IfOk result (λ reply. IsTrue (is_status reply.status)) }
+{
+    success(alloc, Json::Text(session.address.copy(alloc)?))
+}
+
+/// Get Title (Recommendation, section 9.6).
+fn get_title(alloc: Global, session: &Session) -> Result<Reply, Memory>
+    requires { IsWhole session.now }
+    ensures turn { IfOk result (λ reply. title_turn session.now ≡ at_once reply (Leaves session.now)) }
+    ensures status { IfOk result (λ reply. IsTrue (is_status reply.status)) }
+{
+    success(alloc, Json::Text(title(alloc, session.page.document())?))
+}
+
+/// A command of a session that doesn't end it. The session stands at the command's start.
+#[tactic(auto, unfolding(crate::specs::Rows::turn_in, crate::specs::Rows::IsTurnIn))]
+pub(crate) fn row(alloc: Global, session: &mut Session, order: &Order) -> Result<Reply, Memory>
+    requires whole { IsWhole session.old }
+    requires stays { order.now.route.command ≢ DeleteSession }
+    ensures turn { IfOk result (λ reply. IsTurnIn order.now session.old order.now.route.command (at_once reply (Leaves session.new))) }
+    ensures whole { OnOk result (IsWhole session.new) }
+    ensures status { IfOk result (λ reply. IsTrue (is_status reply.status)) }
+{
+    let item = item_of(order);
+    let given = &order.parameters;
+    match order.route.command {
+        Command::GetTimeouts => get_timeouts(alloc, session),
+        Command::SetTimeouts => set_timeouts(alloc, session, given),
+        Command::GetCurrentUrl => current_url(alloc, session),
+        Command::GetTitle => get_title(alloc, session),
+        Command::FindElement => find_in(alloc, session, Wanted::First, Scope::Document, given),
+        Command::FindElements => find_in(alloc, session, Wanted::All, Scope::Document, given),
+        Command::FindElementFromElement => {
+            find_from(alloc, session, Wanted::First, Kind::Element, item, given)
+        }
+        Command::FindElementsFromElement => {
+            find_from(alloc, session, Wanted::All, Kind::Element, item, given)
+        }
+        Command::FindElementFromShadowRoot => {
+            find_from(alloc, session, Wanted::First, Kind::Shadow, item, given)
+        }
+        Command::FindElementsFromShadowRoot => {
+            find_from(alloc, session, Wanted::All, Kind::Shadow, item, given)
+        }
+        Command::GetElementShadowRoot => shadow_root(alloc, session, item),
+        Command::GetElementTagName => tag_name(alloc, session, item),
+        Command::GetElementText => text(alloc, session, item),
+        _ => failure(alloc, Code::UnsupportedOperation),
+    }
 }

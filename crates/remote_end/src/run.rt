@@ -1,20 +1,23 @@
 ghost use Rattle.std.specs.Prelude.{◌≡◌, ◌<◌, ◌≤◌, ◌^◌, ℕ, List, Option, false, IsTrue, IfOk, OnOk, length};
 ghost use Rattle.std.specs.List.{All};
 ghost use Rattle.endpoints.specs.declared.command.Command.TheVariants.{NewSession};
+ghost use Rattle.page_engine.specs.Sites.{IsLawfulSite};
 ghost use Rattle.wd_http.specs.Sent.{is_status};
 ghost use Rattle.remote_end.specs.State.{IsWhole, is_full};
-ghost use Rattle.remote_end.specs.Rows.{turn_alone, turn_of};
-ghost use Rattle.remote_end.specs.Step.{EndsWith, RepliesAt, RunsAt};
+ghost use Rattle.remote_end.specs.Rows.{turn_alone};
+ghost use Rattle.remote_end.specs.Step.{EndsWith, ActsAt, RepliesAt, RunsAt};
 
+use crate::advance::start;
 use crate::meaning::{is_full, meaning, own_place};
 use crate::opening::new_session;
 use crate::order::Order;
 use crate::reply::{Reply, failure, success};
-use crate::rows::serve;
+use crate::rows::row;
 use crate::session::Session;
 use crate::status::status_value;
 use capabilities::Offer;
 use endpoints::{Command, Endpoints};
+use page_engine::Site;
 use std::alloc::Global;
 use wd_errors::Code;
 use wd_http::Request;
@@ -37,12 +40,15 @@ fn run_at(
 {
     match order.route.command {
         Command::DeleteSession => {
+            let mut session = sessions.remove(place);
+            start(&mut session, reading)?;
             let reply = success(alloc, Json::Null)?;
-            let _ = sessions.remove(place);
             Ok(reply)
         }
         _ => {
-            let reply = serve(alloc, &mut sessions[place], order, reading)?;
+            let session = &mut sessions[place];
+            start(session, reading)?;
+            let reply = row(alloc, session, order)?;
             Ok(reply)
         }
     }
@@ -52,6 +58,7 @@ fn run_at(
 #[tactic(auto, unfolding(crate::specs::Rows::turn_alone))]
 fn run_alone(
     alloc: Global,
+    site: &Site,
     offer: &Offer,
     run: u64,
     next: &mut u32,
@@ -59,12 +66,13 @@ fn run_alone(
     order: &Order,
     reading: u64,
 ) -> Result<Reply, Memory>
+    requires lawful { IsLawfulSite site.now }
     requires run_small { run < 2 ^ 48 }
     requires room { order.now.route.command ≡ NewSession → is_full (record { next = next.old; sessions = sessions.old.items }) ≡ false }
     requires whole { All IsWhole sessions.old.items }
     requires few { length sessions.old.items ≤ 8 }
     ensures ends { (named : Option (List ℕ)) → IfOk result (EndsWith
-        (turn_alone (record { name = offer.now.name; run = run }) (record { next = next.old; sessions = sessions.old.items }) order.now.parameters reading order.now.route.command)
+        (turn_alone (record { site = site.now; name = offer.now.name; run = run }) (record { next = next.old; sessions = sessions.old.items }) order.now.parameters reading order.now.route.command)
         (record { next = next.old; sessions = sessions.old.items }) named (record { next = next.new; sessions = sessions.new.items })) }
     ensures whole { OnOk result (All IsWhole sessions.new.items) }
     ensures few { OnOk result (length sessions.new.items ≤ 8) }
@@ -74,6 +82,7 @@ fn run_alone(
         Command::Status => success(alloc, status_value(alloc, is_full(*next, sessions))?),
         Command::NewSession => new_session(
             alloc,
+            site,
             offer,
             run,
             next,
@@ -88,6 +97,7 @@ fn run_alone(
 /// A command.
 fn run_order(
     alloc: Global,
+    site: &Site,
     offer: &Offer,
     run: u64,
     next: &mut u32,
@@ -95,20 +105,20 @@ fn run_order(
     order: &Order,
     reading: u64,
 ) -> Result<Reply, Memory>
+    requires lawful { IsLawfulSite site.now }
     requires run_small { run < 2 ^ 48 }
     requires room { order.now.route.command ≡ NewSession → is_full (record { next = next.old; sessions = sessions.old.items }) ≡ false }
     requires whole { All IsWhole sessions.old.items }
     requires few { length sessions.old.items ≤ 8 }
-    ensures ends { IfOk result (EndsWith
-        (turn_of (record { name = offer.now.name; run = run }) (record { next = next.old; sessions = sessions.old.items }) order.now reading)
-        (record { next = next.old; sessions = sessions.old.items }) order.now.route.session (record { next = next.new; sessions = sessions.new.items })) }
+    ensures acts { IfOk result (ActsAt (record { site = site.now; name = offer.now.name; run = run })
+        (record { next = next.old; sessions = sessions.old.items }) order.now reading (record { next = next.new; sessions = sessions.new.items })) }
     ensures whole { OnOk result (All IsWhole sessions.new.items) }
     ensures few { OnOk result (length sessions.new.items ≤ 8) }
     ensures status { IfOk result (λ reply. IsTrue (is_status reply.status)) }
 {
     match own_place(&order.route.session, sessions) {
         Some(place) => run_at(alloc, sessions, place, order, reading),
-        None => run_alone(alloc, offer, run, next, sessions, order, reading),
+        None => run_alone(alloc, site, offer, run, next, sessions, order, reading),
     }
 }
 
@@ -116,6 +126,7 @@ fn run_order(
 pub(crate) fn respond(
     alloc: Global,
     endpoints: &Endpoints,
+    site: &Site,
     offer: &Offer,
     run: u64,
     next: &mut u32,
@@ -123,10 +134,11 @@ pub(crate) fn respond(
     request: &Request,
     reading: u64,
 ) -> Result<Reply, Memory>
+    requires lawful { IsLawfulSite site.now }
     requires run_small { run < 2 ^ 48 }
     requires whole { All IsWhole sessions.old.items }
     requires few { length sessions.old.items ≤ 8 }
-    ensures replies { IfOk result (RepliesAt (record { name = offer.now.name; run = run })
+    ensures replies { IfOk result (RepliesAt (record { site = site.now; name = offer.now.name; run = run })
         (record { next = next.old; sessions = sessions.old.items }) request.now reading (record { next = next.new; sessions = sessions.new.items })) }
     ensures whole { OnOk result (All IsWhole sessions.new.items) }
     ensures few { OnOk result (length sessions.new.items ≤ 8) }
@@ -134,7 +146,7 @@ pub(crate) fn respond(
 {
     match meaning(alloc, endpoints, *next, sessions, request)? {
         Ok(order) => {
-            let reply = run_order(alloc, offer, run, next, sessions, &order, reading)?;
+            let reply = run_order(alloc, site, offer, run, next, sessions, &order, reading)?;
             Ok(reply)
         }
         Err(code) => {

@@ -1,6 +1,7 @@
 use capabilities::Matched;
-use page_tree::Document;
+use page_engine::Page;
 use references::{Id, Known};
+use wd_json::WdText;
 
 /// An open session. What it keeps is what the command machine says of it.
 #[derive(Drop)]
@@ -12,8 +13,10 @@ pub struct Session {
     /// What it was asked for.
     pub matched: Matched,
     /// The page of its window.
-    pub page: Document,
-    /// The moment that it has reached, in milliseconds. Between commands that is the moment at which its
-    /// last one ended, and while one runs the moment at which it stands.
+    pub page: Page,
+    /// The serialised address of that page.
+    pub address: WdText,
+    /// The moment that it has reached, in milliseconds, at most 2^62. Between commands that is the moment
+    /// at which its last one ended, and while one runs the moment at which it stands.
     pub at: u64,
 }

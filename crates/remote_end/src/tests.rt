@@ -1,4 +1,5 @@
-use crate::{Evaluator, Remote, Site};
+use crate::{Evaluator, Remote};
+use page_engine::Site;
 use std::alloc::Global;
 use std::process::Abort;
 use std::test::Fail;
@@ -48,9 +49,11 @@ fn an_element_is_found_and_named(rt: HostRuntime) -> Result<(), Fail> {
     let mut remote = remote(alloc, "wdpage")?;
     let session = "/session/00000000-0001-8000-8000-000100000000";
     let find = "/session/00000000-0001-8000-8000-000100000000/element";
+    let title = "/session/00000000-0001-8000-8000-000100000000/title";
+    let url = "/session/00000000-0001-8000-8000-000100000000/url";
     let name =
         "/session/00000000-0001-8000-8000-000100000000/element/00000000-0001-8002-8000-000100000002/name";
-    let steps: [((&str, &str, &str), u16, &str); 9] = [
+    let steps: [((&str, &str, &str), u16, &str); 11] = [
         (
             ("POST", "/session", r#"{"capabilities":{}}"#),
             200,
@@ -67,6 +70,8 @@ fn an_element_is_found_and_named(rt: HostRuntime) -> Result<(), Fail> {
             r#"{"value":{"element-6066-11e4-a52e-4f735466cecf":"00000000-0001-8002-8000-000100000002"}}"#,
         ),
         (("GET", name, ""), 200, r#"{"value":"a"}"#),
+        (("GET", title, ""), 200, r#"{"value":"Page"}"#),
+        (("GET", url, ""), 200, r#"{"value":"http://page.test/"}"#),
         (
             ("POST", find, r#"{"using":"tag name","value":"table"}"#),
             404,

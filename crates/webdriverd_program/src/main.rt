@@ -1,12 +1,12 @@
-//! The program: it makes the real line, clock and sink, and calls the server.
+//! The program: it makes the real files, line, clock and sink, and calls the server.
 #![tactic(auto)]
 
 use std::alloc::Global;
 use std::process::ExitCode;
 use std::{env, io};
-use wd_http::{Line, Sink, VirtualClock};
+use wd_http::{Files, Line, Sink, VirtualClock};
 use wd_json::WdText;
-use webdriverd::{NoFiles, NoScripts, PipeLine, StreamSink, webdriverd};
+use webdriverd::{NoScripts, PipeLine, StdFiles, StreamSink, webdriverd};
 
 /// The words of the command line, without the program's name; none where one of them is no text.
 fn words_of(rt: &HostRuntime) -> io::Result<Vec<WdText>> {
@@ -24,13 +24,19 @@ fn words_of(rt: &HostRuntime) -> io::Result<Vec<WdText>> {
     Ok(words)
 }
 
-/// Runs the server with this line and this sink.
-fn run<L: Line, K: Sink>(alloc: Global, words: &[WdText], line: &mut L, out: &mut K) -> ExitCode {
+/// Runs the server with these files, this line and this sink.
+fn run<F: Files, L: Line, K: Sink>(
+    alloc: Global,
+    words: &[WdText],
+    files: &mut F,
+    line: &mut L,
+    out: &mut K,
+) -> ExitCode {
     let ended = webdriverd(
         alloc,
         words,
         1,
-        &mut NoFiles::new(),
+        files,
         line,
         &mut VirtualClock::new(),
         &mut NoScripts,
@@ -43,6 +49,7 @@ fn main(rt: HostRuntime) -> ExitCode {
     let Ok(words) = words_of(&rt) else {
         return ExitCode::from(6);
     };
+    let mut files = StdFiles::new(rt.alloc(), &rt);
     let mut line = PipeLine::new(rt.stdin(), rt.stdout());
     let is_pipe = match words.first() {
         Some(word) => word.as_str() == "pipe",
@@ -52,6 +59,7 @@ fn main(rt: HostRuntime) -> ExitCode {
         run(
             rt.alloc(),
             &words,
+            &mut files,
             &mut line,
             &mut StreamSink::new(rt.stderr()),
         )
@@ -59,6 +67,7 @@ fn main(rt: HostRuntime) -> ExitCode {
         run(
             rt.alloc(),
             &words,
+            &mut files,
             &mut line,
             &mut StreamSink::new(rt.stdout()),
         )

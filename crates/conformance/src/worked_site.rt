@@ -1,0 +1,171 @@
+use crate::files::{in_memory, told};
+use crate::turns::{
+    ANY, FIND, FIRST, NO_ELEMENT, NOT_FOUND, NULL, OK, OPENED, REFERENCE, Turn, converse_over,
+};
+use page_file::read_site;
+use remote_end::Remote;
+use std::alloc::Global;
+use std::process::Abort;
+use std::test::Fail;
+use wd_http::{ListClock, Request, TimeList};
+use wd_json::{WdBytes, WdText, write};
+use webdriverd::NoScripts;
+
+/// The worked site, as it stands in examples/.
+pub const W_SITE: &str =
+    r#"{"wdsite":1,"start":"http://w.test/","pages":[["http://w.test/","w.json"]]}"#;
+
+/// Its one page.
+pub const W_JSON: &str = r##"{"wdpage":1,"nodes":[{"tag":"html"},
+{"tag":"body","up":0,"box":[0,0,1280,800]},
+{"tag":"p","up":1,"attrs":{"id":"a1b"},"box":[0,0,100,20]},
+{"text":"one  two","up":2},
+{"tag":"button","up":1,"attrs":{"id":"out"},"box":[0,40,80,20],"on":{"click":[["remove",2]]}},
+{"tag":"button","up":1,"attrs":{"id":"in"},"box":[0,80,80,20],"on":{"click":[["insert",2,1,0]]}},
+{"tag":"div","up":1,"attrs":{"id":"under"},"box":[200,0,100,100]},
+{"tag":"div","up":1,"attrs":{"id":"over"},"box":[240,0,100,100],"layer":1},
+{"tag":"i","up":1,"attrs":{"id":"thin"},"box":[400,0,0,20]},
+{"tag":"em","up":null,"attrs":{"id":"late"},"box":[0,200,50,20]},
+{"tag":"input","up":1,"attrs":{"id":"1x"},"box":[0,120,200,20]},
+{"tag":"button","up":1,"attrs":{"id":"ask"},"box":[0,160,80,20],
+ "on":{"click":[["prompt","alert","Sure?","",[],[]]]}},
+{"tag":"nav","up":1},{"tag":"ul","up":12},{"tag":"ul","up":13},{"tag":"li","up":14},
+{"shadow":"open","up":6},
+{"tag":"b","up":16,"attrs":{"id":"deep"},"box":[200,0,10,10]}],
+"timers":[{"at":40,"do":[["insert",9,1,99]]},{"at":60,"do":[["remove",9]]}],
+"scripts":[{"script":"return log","cells":[["log"]],"root":0},
+{"script":"return twice","cells":[["text","v"],["list",[0,0]]],"root":1},
+{"script":"return loop","cells":[["list",[0]]],"root":0},
+{"script":"return half","cells":[["fraction","1.5"]],"root":0},
+{"script":"return never","cells":[["null"]],"root":0,"after":null}]}"##;
+
+pub const STALE: &str =
+    r#"{"value":{"error":"stale element reference","message":"stale element reference","stacktrace":""}}"#;
+
+const NAME: &str =
+    "/session/00000000-0001-8000-8000-000100000000/element/00000000-0001-8002-8000-000100000002/name";
+
+const TITLE: &str = "/session/00000000-0001-8000-8000-000100000000/title";
+
+const URL: &str = "/session/00000000-0001-8000-8000-000100000000/url";
+
+/// The remote end of the worked site, as run 1.
+fn worked(alloc: Global) -> Result<Remote, Fail> {
+    remote_over(alloc, W_JSON)
+}
+
+/// The remote end of a site of one page, as run 1.
+pub fn remote_over(alloc: Global, page: &str) -> Result<Remote, Fail> {
+    let mut files = in_memory(alloc, &[("w.site", W_SITE), ("w.json", page)], None)?;
+    let site = read_site(alloc, &mut files, "w.site")?;
+    Ok(Remote::new(alloc, site, WdText::of(alloc, "wdpage")?, 1)?)
+}
+
+/// A clock that gives these readings.
+pub fn clock(alloc: Global, readings: &[u64]) -> Result<ListClock, Fail> {
+    let mut numbers = TimeList::new(alloc);
+    for reading in readings {
+        numbers.push(*reading)?;
+    }
+    Ok(ListClock::new(numbers))
+}
+
+fn request(alloc: Global, method: &str, target: &str, body: &str) -> Result<Request, Fail> {
+    Ok(Request {
+        method: WdText::of(alloc, method)?,
+        target: WdText::of(alloc, target)?,
+        close: false,
+        body: WdBytes::of(alloc, body.as_bytes())?,
+    })
+}
+
+/// Answers a request, and compares the reply.
+pub fn asked(
+    rt: &impl Abort,
+    alloc: Global,
+    remote: &mut Remote,
+    clock: &mut ListClock,
+    ask: (&str, &str, &str),
+    reply: (u16, &str),
+) -> Result<(), Fail> {
+    let request = request(alloc, ask.0, ask.1, ask.2)?;
+    assert!(rt; !remote.spent());
+    let found = remote.answer(&request, clock, &mut NoScripts)?;
+    assert_eq!(rt; found.status, reply.0);
+    let text = write(alloc, &found.body)?;
+    assert_eq!(rt; text.as_slice(), reply.1.as_bytes());
+    Ok(())
+}
+
+#[test]
+fn what_comes_at_a_moment_is_found_then_and_is_stale_when_it_goes(
+    rt: HostRuntime,
+) -> Result<(), Fail> {
+    let alloc = rt.alloc();
+    let mut remote = worked(alloc)?;
+    let mut clock = clock(alloc, &[0, 39, 40, 60])?;
+    let em = r#"{"using":"tag name","value":"em"}"#;
+    let steps: [((&str, &str, &str), (u16, &str)); 4] = [
+        (("POST", "/session", ANY), (200, OPENED)),
+        (("POST", FIND, em), (404, NO_ELEMENT)),
+        (("POST", FIND, em), (200, REFERENCE)),
+        (("GET", NAME, ""), (404, STALE)),
+    ];
+    for (ask, reply) in steps {
+        asked(&rt, alloc, &mut remote, &mut clock, ask, reply)?;
+    }
+    Ok(())
+}
+
+/// The conversation of examples/site.http: no moment passes in it.
+#[test]
+fn the_worked_site_is_served(rt: HostRuntime) -> Result<(), Fail> {
+    let alloc = rt.alloc();
+    let turns: [Turn; 7] = [
+        ("POST", "/session", ANY, OK, OPENED),
+        ("GET", TITLE, "", OK, r#"{"value":""}"#),
+        ("GET", URL, "", OK, r#"{"value":"http://w.test/"}"#),
+        (
+            "POST",
+            FIND,
+            r#"{"using":"tag name","value":"p"}"#,
+            OK,
+            REFERENCE,
+        ),
+        ("GET", NAME, "", OK, r#"{"value":"p"}"#),
+        (
+            "POST",
+            FIND,
+            r#"{"using":"tag name","value":"em"}"#,
+            NOT_FOUND,
+            NO_ELEMENT,
+        ),
+        ("DELETE", FIRST, "", OK, NULL),
+    ];
+    let files = [("w.site", W_SITE), ("w.json", W_JSON)];
+    converse_over(&rt, alloc, &["pipe", "w.site"], &files, &turns)
+}
+
+#[test]
+fn a_site_that_is_not_there_is_a_file_fault(rt: HostRuntime) -> Result<(), Fail> {
+    let found = told(rt.alloc(), &["pipe", "none.site"], &[], None)?;
+    assert_eq!(rt; found.as_str(), "4 webdriverd: file fault\n");
+    Ok(())
+}
+
+#[test]
+fn a_parent_that_stands_further_on_is_told(rt: HostRuntime) -> Result<(), Fail> {
+    let files = [
+        (
+            "b.site",
+            r#"{"wdsite":1,"start":"http://b.test/","pages":[["http://b.test/","b.json"]]}"#,
+        ),
+        (
+            "b.json",
+            r#"{"wdpage":1,"nodes":[{"tag":"html"},{"tag":"p","up":0},{"tag":"b","up":5}]}"#,
+        ),
+    ];
+    let found = told(rt.alloc(), &["pipe", "b.site"], &files, None)?;
+    assert_eq!(rt; found.as_str(), "3 webdriverd: b.json: row 2: node\n");
+    Ok(())
+}

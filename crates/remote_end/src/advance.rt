@@ -1,0 +1,73 @@
+ghost use Rattle.std.specs.Prelude.{◌≡◌, ◌≤◌, Some, false, OnOk};
+ghost use Rattle.std.specs.List.Sorted.{IsStrictlySortedBy};
+ghost use Rattle.std.specs.Map.{keys_of};
+ghost use Rattle.page_engine.specs.Scene.{due_order, first_due};
+ghost use Rattle.waits.specs.Moments.{last_moment};
+ghost use Rattle.remote_end.specs.Advance.{Advances, Advanced, due_at};
+ghost use Rattle.remote_end.specs.Moments.{start_of};
+ghost use Rattle.remote_end.specs.State.{IsWhole};
+
+use crate::session::Session;
+use page_engine::Page;
+use waits::LAST_MOMENT;
+use wd_json::Memory;
+
+/// When the next timer is due; `None` where none is due by then.
+fn due_by(page: &Page, to: u64) -> Option<u64>
+    requires { page.now.spent ≡ false }
+    ensures { result ≡ due_at to (first_due page.now.pending) }
+{
+    match page.next_due() {
+        Some(due) => {
+            if due.moment <= to {
+                Some(due.moment)
+            } else {
+                None
+            }
+        }
+        None => None,
+    }
+}
+
+/// Runs the timers that are due by then, one after another.
+fn run_timers(page: &mut Page, reached: u64, to: u64) -> Result<(), Memory>
+    requires alive { page.old.spent ≡ false }
+    requires order { IsStrictlySortedBy due_order (keys_of page.old.pending) }
+    requires onwards { reached ≤ to }
+    requires moment { to ≤ last_moment }
+    ensures runs { OnOk result (Advances to page.old reached page.new) }
+    ensures alive { OnOk result (page.new.spent ≡ false) }
+    ensures order { OnOk result (IsStrictlySortedBy due_order (keys_of page.new.pending)) }
+    ensures address { OnOk result (page.new.address ≡ page.old.address) }
+{
+    let mut reached = reached;
+    while let Some(due) = due_by(page, to) {
+        reached = due.max(reached);
+        drop(page.run_due(reached)?);
+    }
+    Ok(())
+}
+
+/// Advances a session to a moment, and runs its page's timers that are due by then. `Memory` where there is
+/// no memory for what they do. It costs these timers and their effects.
+fn advance(session: &mut Session, to: u64) -> Result<(), Memory>
+    requires whole { IsWhole session.old }
+    requires onwards { session.old.at ≤ to }
+    requires moment { to ≤ last_moment }
+    ensures advanced { OnOk result (Advanced session.old to session.new) }
+    ensures whole { OnOk result (IsWhole session.new) }
+{
+    run_timers(&mut session.page, session.at, to)?;
+    session.at = to;
+    Ok(())
+}
+
+/// Advances a session to the start of a command that is begun with a reading.
+pub(crate) fn start(session: &mut Session, reading: u64) -> Result<(), Memory>
+    requires { IsWhole session.old }
+    ensures advanced { OnOk result (Advanced session.old (start_of (Some session.old) reading) session.new) }
+    ensures whole { OnOk result (IsWhole session.new) }
+{
+    let start = session.at.max(reading).min(LAST_MOMENT);
+    advance(session, start)
+}
