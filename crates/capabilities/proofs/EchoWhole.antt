@@ -2,7 +2,7 @@
 use Rattle.std.proofs.Common.{◌≡◌, ℕ, ◌<◌, ◌^◌, List, [], ◌∷◌, map, pos, codes, true, nat_lt, refl, ap, ◌∙◌, arith, tests}
 use Rattle.wd_json.specs.Json.{data_of, members_data}
 use Rattle.wd_json.specs.Whole.{is_whole, members_are_whole}
-use Rattle.wd_json.specs.declared.json.Json.TheVariants as json
+use Rattle.wd_json.specs.declared.value.Json.TheVariants as json
 use Rattle.wd_json.proofs.Shapes.{data_of-Bool, data_of-Int, data_of-Text, data_of-Object}
 use Rattle.capabilities.specs.Values.{Member, Members}
 use Rattle.capabilities.specs.Strategy.{strategy_text}

@@ -5,7 +5,7 @@ use lib.Utf8.{encode}
 use Rattle.std.specs.List.Sorted.{IsStrictlySortedBy}
 use Rattle.std.specs.Str.{chars}
 use Rattle.wd_json.specs.Keys.{KeysRise}
-use Rattle.wd_json.specs.declared.json.Json.{Json}
+use Rattle.wd_json.specs.declared.value.Json.{Json}
 use Rattle.capabilities.specs.Values.{Member, Members}
 use Rattle.capabilities.specs.Table.{row_of}
 use Rattle.capabilities.specs.Echo.{echoed, echoed_at}

@@ -3,7 +3,7 @@ use Rattle.std.proofs.Common.{length, drop, get_or, suc, drop-cons, ◌<◌, ◌
 use Rattle.std.specs.List.{find, list_all}
 use Rattle.std.specs.Option.{option_map}
 use Rattle.std.specs.Str.{encode_utf8_all}
-use Rattle.wd_json.specs.declared.json.Json.{Json}
+use Rattle.wd_json.specs.declared.value.Json.{Json}
 use Rattle.capabilities.specs.Values.{Member, Members, members_of, value_of, same_text}
 use Rattle.capabilities.specs.Table.{is_match}
 use Rattle.capabilities.specs.Choice.{given, or_else, merge, chosen, first_of, wrong_in, doubled_in, wrong_name}

@@ -1,6 +1,6 @@
 -- The answer to a request, by what its parts are.
 use Rattle.std.proofs.Common.{◌≡◌, ℕ, List, Option, Some, None, IfSome, Result, Ok, Err, IfOk, IfErr, codes, refl, ap, sym, ◌∙◌, subst}
-use Rattle.wd_json.specs.declared.json.Json.{Json}
+use Rattle.wd_json.specs.declared.value.Json.{Json}
 use Rattle.capabilities.specs.Values.{Members}
 use Rattle.capabilities.specs.Form.{Asked, asked_of, asked_by, asked_in, capabilities_in, always_in, firsts_in}
 use Rattle.std.specs.List.{list_all}

@@ -1,8 +1,8 @@
 -- Timeouts that are read are in range.
 use Rattle.std.proofs.Common.{◌≡◌, ℕ, ◌<◌, ◌^◌, Bool, true, false, Option, Some, None, IfSome, IfOk, pos, negsuc, nat_lt, if◌then◌else◌, codes, refl, tests, arith, rules}
 use Rattle.std.specs.Option.{option_map_or, option_and_then, ok_or, unwrap_or}
-use Rattle.wd_json.specs.declared.json.Json.{Json, out-Json}
-use Rattle.wd_json.specs.declared.json.Json.TheOpen.{Json-F}
+use Rattle.wd_json.specs.declared.value.Json.{Json, out-Json}
+use Rattle.wd_json.specs.declared.value.Json.TheOpen.{Json-F}
 use Rattle.capabilities.specs.Values.{Members, object_of, value_of}
 use Rattle.capabilities.specs.Timeouts.{AreInRange, span_in, span_of, span_at, timeouts_in, timeouts_of, default_timeouts}
 use Rattle.capabilities.specs.Processed.{read_at}

@@ -6,10 +6,10 @@ use Rattle.std.specs.Str.{encode_utf8_all}
 use Rattle.wd_json.specs.Data.{Data, object, no_members}
 use Rattle.wd_json.specs.Json.{data_of, data_step, members_data, items_data}
 use Rattle.wd_json.specs.Whole.{is_whole, members_are_whole, items_are_whole}
-use Rattle.wd_json.specs.declared.json.Json.{Json, out-Json, fold_out-Json, the_lemmas}
-use Rattle.wd_json.specs.declared.json.Json.TheFolds.{map-Json}
-use Rattle.wd_json.specs.declared.json.Json.TheOpen.{Json-F}
-use Rattle.wd_json.specs.declared.json.Json.TheVariants as json
+use Rattle.wd_json.specs.declared.value.Json.{Json, out-Json, fold_out-Json, the_lemmas}
+use Rattle.wd_json.specs.declared.value.Json.TheFolds.{map-Json}
+use Rattle.wd_json.specs.declared.value.Json.TheOpen.{Json-F}
+use Rattle.wd_json.specs.declared.value.Json.TheVariants as json
 use Rattle.capabilities.specs.Values.{Member, Members, object_in, list_in, object_of, list_of, members_of, value_of, same_text, is_null}
 use Rattle.capabilities.specs.Form.{Asked, capabilities_in, always_in, firsts_in, objects_in, are_objects, asked_in, asked_of, asked_by}
 use Rattle.capabilities.specs.Choice.{given, merge}

@@ -5,7 +5,7 @@ use Rattle.std.specs.Option.{option_and_then}
 use Rattle.capabilities.specs.Values.{same_text, text_of}
 use Rattle.capabilities.specs.declared.behaviour.Behaviour.{Behaviour}
 use Rattle.capabilities.specs.declared.behaviour.Behaviour.TheVariants.{Dismiss, Accept, DismissNotify, AcceptNotify, Ignore}
-use Rattle.wd_json.specs.declared.json.Json.{Json}
+use Rattle.wd_json.specs.declared.value.Json.{Json}
 
 abbrev pub behaviour_text : Behaviour → List ℕ
 behaviour_text Dismiss = codes "dismiss"

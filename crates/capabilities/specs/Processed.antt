@@ -12,8 +12,8 @@ use Rattle.capabilities.specs.declared.behaviour.Behaviour.TheVariants.{DismissN
 use Rattle.capabilities.specs.declared.matched.Matched.{Matched}
 use Rattle.capabilities.specs.declared.fault.CapFault.{CapFault}
 use Rattle.capabilities.specs.declared.fault.CapFault.TheVariants.{Invalid, NoMatch, Memory}
-use Rattle.wd_json.specs.declared.json.Json.{Json}
-use Rattle.wd_json.specs.declared.json.Json.TheVariants as json
+use Rattle.wd_json.specs.declared.value.Json.{Json}
+use Rattle.wd_json.specs.declared.value.Json.TheVariants as json
 
 -- what a merge has at a name, or the default
 abbrev pub read_at : {A : Type 0} → (Json → Option A) → A → List ℕ → Members → A

@@ -5,7 +5,7 @@ use Rattle.std.specs.Option.{option_and_then}
 use Rattle.capabilities.specs.Values.{same_text, text_of}
 use Rattle.capabilities.specs.declared.strategy.Strategy.{Strategy}
 use Rattle.capabilities.specs.declared.strategy.Strategy.TheVariants.{None as NoWait, Eager, Normal}
-use Rattle.wd_json.specs.declared.json.Json.{Json}
+use Rattle.wd_json.specs.declared.value.Json.{Json}
 
 abbrev pub strategy_text : Strategy → List ℕ
 strategy_text NoWait = codes "none"

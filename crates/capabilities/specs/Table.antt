@@ -10,8 +10,8 @@ use Rattle.capabilities.specs.Timeouts.{timeouts_of, timeouts_object}
 use Rattle.capabilities.specs.declared.capability.Capability.{Capability}
 use Rattle.capabilities.specs.declared.capability.Capability.TheVariants.{AcceptInsecureCerts, BrowserName, BrowserVersion, PageLoadStrategy, PlatformName, Proxy, SetWindowRect, StrictFileInteractability, Timeouts, UnhandledPromptBehavior}
 use Rattle.capabilities.specs.declared.matched.Matched.{Matched}
-use Rattle.wd_json.specs.declared.json.Json.{Json}
-use Rattle.wd_json.specs.declared.json.Json.TheVariants as json
+use Rattle.wd_json.specs.declared.value.Json.{Json}
+use Rattle.wd_json.specs.declared.value.Json.TheVariants as json
 
 -- the columns; what is matched and what is answered may depend on the name that this end offers
 pub record Row : Type 0 where

@@ -3,9 +3,9 @@ use Rattle.std.specs.Prelude.{ℕ, ◌^◌, ◌<◌, List, [], ◌∷◌, Option
 use Rattle.std.specs.Option.{option_map_or, option_and_then}
 use Rattle.capabilities.specs.Values.{Members, object_of, value_of}
 use Rattle.capabilities.specs.declared.timeouts.Timeouts.{Timeouts}
-use Rattle.wd_json.specs.declared.json.Json.{Json, out-Json}
-use Rattle.wd_json.specs.declared.json.Json.TheOpen.{Json-F}
-use Rattle.wd_json.specs.declared.json.Json.TheVariants as json
+use Rattle.wd_json.specs.declared.value.Json.{Json, out-Json}
+use Rattle.wd_json.specs.declared.value.Json.TheOpen.{Json-F}
+use Rattle.wd_json.specs.declared.value.Json.TheVariants as json
 
 -- each is at most 2^53 - 1
 pub record AreInRange (t : Timeouts) : Type 0 where

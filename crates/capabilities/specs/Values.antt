@@ -4,8 +4,8 @@ use Rattle.std.specs.List.{find}
 use Rattle.std.specs.Option.{option_map, unwrap_or}
 use Rattle.std.specs.Str.{encode_utf8_all}
 use Rattle.std.specs.Cmp.Lexicographic.{pointwise}
-use Rattle.wd_json.specs.declared.json.Json.{Json, out-Json}
-use Rattle.wd_json.specs.declared.json.Json.TheOpen.{Json-F}
+use Rattle.wd_json.specs.declared.value.Json.{Json, out-Json}
+use Rattle.wd_json.specs.declared.value.Json.TheOpen.{Json-F}
 
 -- a member of an object: its name, as characters, and its value
 abbrev pub Member : Type 0

@@ -5,7 +5,7 @@ ghost use Rattle.wd_json.specs.Whole.{is_whole};
 ghost use Rattle.capabilities.specs.Table.{row_of};
 ghost use Rattle.capabilities.specs.Timeouts.{AreInRange};
 ghost use Rattle.capabilities.specs.Echo.{echoed};
-ghost use Rattle.wd_json.specs.declared.json.Json.TheVariants.{Object as AnObject, Text as AText};
+ghost use Rattle.wd_json.specs.declared.value.Json.TheVariants.{Object as AnObject, Text as AText};
 
 use crate::capability::{CAPABILITIES, Capability, name};
 use crate::matched::{Matched, Offer};

@@ -3,7 +3,7 @@ ghost use Rattle.std.specs.List.{list_all};
 ghost use Rattle.std.specs.Option.{option_map};
 ghost use Rattle.capabilities.specs.Values.{is_object as object_value, members_of};
 ghost use Rattle.capabilities.specs.Form.{capabilities_in, always_in, are_objects as are_some_objects, objects_in, firsts_in};
-ghost use Rattle.wd_json.specs.declared.json.Json.TheVariants.{Object as AnObject};
+ghost use Rattle.wd_json.specs.declared.value.Json.TheVariants.{Object as AnObject};
 
 use crate::values::{Member, as_list, as_object, find_value, is_object};
 use wd_json::Json;

@@ -3,7 +3,7 @@ ghost use Rattle.std.specs.Option.{ok_or};
 ghost use Rattle.std.specs.Str.{IsAscii};
 ghost use Rattle.wd_json.specs.Json.{data_of};
 ghost use Rattle.wd_json.specs.Whole.{is_whole};
-ghost use Rattle.wd_json.specs.declared.json.Json.TheVariants.{Int};
+ghost use Rattle.wd_json.specs.declared.value.Json.TheVariants.{Int};
 ghost use Rattle.capabilities.specs.Timeouts.{AreInRange, span_of as span_value, span_at as span_value_at, timeouts_in as timeouts_value, timeouts_object as object_value};
 
 use crate::values::{Member, as_object, find_value};

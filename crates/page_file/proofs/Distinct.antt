@@ -25,7 +25,7 @@ use Rattle.page_file.specs.NodeValues.{Attribute, attribute_of, Handler, handler
 use Rattle.page_file.specs.Spelled.{effects_in}
 use Rattle.page_file.specs.Values.{text_of}
 use Rattle.wd_json.specs.Keys.{text_cmp}
-use Rattle.wd_json.specs.declared.json.Json.{Json}
+use Rattle.wd_json.specs.declared.value.Json.{Json}
 
 some_is : {X : Type 0} (x y : X) → Some x ≡ Some y → x ≡ y
 some_is x y e = cc

@@ -14,8 +14,8 @@ use Rattle.page_file.specs.Spelled.{each, all_in, plain_row, timed_row, effect_r
 use Rattle.page_file.specs.declared.word.Word.{Word}
 use Rattle.page_file.specs.declared.word.Word.TheVariants as word
 use Rattle.page_tree.specs.declared.geometry.PixelBox.{PixelBox}
-use Rattle.wd_json.specs.declared.json.Json.{Json, the_lemmas}
-use Rattle.wd_json.specs.declared.json.Json.TheVariants as json
+use Rattle.wd_json.specs.declared.value.Json.{Json, the_lemmas}
+use Rattle.wd_json.specs.declared.value.Json.TheVariants as json
 
 pub ruleset fits_inside = (fits-Prompt, fits-After)
 

@@ -24,7 +24,7 @@ use Rattle.page_file.specs.declared.page_fault.PageFault.{PageFault}
 use Rattle.page_file.specs.declared.page_fault.PageFault.TheVariants.{Bad, Memory}
 use Rattle.page_file.specs.declared.why.Why.{Why}
 use Rattle.page_file.specs.declared.why.Why.TheVariants.{Address}
-use Rattle.wd_json.specs.declared.json.Json.{Json}
+use Rattle.wd_json.specs.declared.value.Json.{Json}
 
 module _ {X : Type 0} (p : X → Bool) where
   pub position_keep : (xs : List X) (y : X) → p y ≡ false → position p (xs ++ y ∷ []) ≡ position p xs

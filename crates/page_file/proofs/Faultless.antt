@@ -37,7 +37,7 @@ use Rattle.page_file.specs.declared.why.Why.{Why}
 use Rattle.page_file.specs.declared.why.Why.TheVariants as why
 use Rattle.page_tree.specs.Places.{depth, max_depth}
 use Rattle.page_tree.specs.Rows.{max_nodes}
-use Rattle.wd_json.specs.declared.json.Json.{Json}
+use Rattle.wd_json.specs.declared.value.Json.{Json}
 
 -- ---- what is so of whatever is read
 

@@ -14,7 +14,7 @@ use Rattle.wd_json.specs.Json.{data_of}
 use Rattle.wd_json.specs.Whole.{IsCause, is_whole}
 use Rattle.wd_json.specs.declared.fault.JsonFault.{JsonFault}
 use Rattle.wd_json.specs.declared.fault.JsonFault.TheVariants as json
-use Rattle.wd_json.specs.declared.json.Json.{Json}
+use Rattle.wd_json.specs.declared.value.Json.{Json}
 
 both_false : (b c : Bool) → b ≡ false → c ≡ false → (b || c) ≡ false
 both_false true c h k = h

@@ -16,7 +16,7 @@ use Rattle.page_file.specs.Members.{each_of}
 use Rattle.page_file.specs.declared.listing.Entry.{Entry}
 use Rattle.page_file.specs.declared.listing.Listing.{Listing}
 use Rattle.page_file.specs.declared.why.Why.TheVariants.{Address}
-use Rattle.wd_json.specs.declared.json.Json.{Json}
+use Rattle.wd_json.specs.declared.value.Json.{Json}
 
 -- what is wrong with a value, by the entries that those before it spell
 fault_at : (values : List Json) (n : ℕ) (v : Json) (entries : List Entry) → slice_get values n ≡ Some v → each_of entry_of (take n values) ≡ Some entries

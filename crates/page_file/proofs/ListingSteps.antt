@@ -7,7 +7,7 @@ use Rattle.page_file.specs.Listings.{Top, top_of, top_fault, listing_fault, star
 use Rattle.page_file.specs.Members.{each_of}
 use Rattle.page_file.specs.declared.listing.Entry.{Entry}
 use Rattle.page_file.specs.declared.why.Why.TheVariants.{Address}
-use Rattle.wd_json.specs.declared.json.Json.{Json}
+use Rattle.wd_json.specs.declared.value.Json.{Json}
 
 abbrev fault_of_start : List Json → Option ℕ → Option Fault
 fault_of_start values place = if is_none place then Some (length values, Address) else None

@@ -34,8 +34,8 @@ use Rattle.page_file.specs.Scripts.{entry_of, is_good_entry, entries_before, scr
 use Rattle.page_file.specs.Timers.{timer_of, is_good_timer, is_bad_timer, timer_fault_at, timers_fault}
 use Rattle.page_file.specs.declared.why.Why.{Why}
 use Rattle.page_file.specs.declared.why.Why.TheVariants as why
-use Rattle.wd_json.specs.declared.json.Json.{Json, out-Json}
-use Rattle.wd_json.specs.declared.json.Json.TheOpen.{Json-F}
+use Rattle.wd_json.specs.declared.value.Json.{Json, out-Json}
+use Rattle.wd_json.specs.declared.value.Json.TheOpen.{Json-F}
 
 -- ---- each value of a list is read, where the next one always is
 

@@ -30,7 +30,7 @@ use Rattle.page_file.specs.declared.site_fault.SiteFault.TheVariants.{Read, TooL
 use Rattle.page_file.specs.declared.why.Why.{Why}
 use Rattle.wd_json.proofs.Alone.{same_data}
 use Rattle.wd_json.specs.Json.{data_of}
-use Rattle.wd_json.specs.declared.json.Json.{Json}
+use Rattle.wd_json.specs.declared.value.Json.{Json}
 
 -- ---- bytes are the text of one value, and it spells one listing or page
 

@@ -27,7 +27,7 @@ use Rattle.page_file.proofs.FirstFaults.{first_some, first_none}
 use Rattle.page_file.specs.declared.why.Why.{Why}
 use Rattle.page_file.specs.declared.why.Why.TheVariants as why
 use Rattle.page_tree.specs.Rows.{max_nodes}
-use Rattle.wd_json.specs.declared.json.Json.{Json}
+use Rattle.wd_json.specs.declared.value.Json.{Json}
 
 pub and_both : (a b : Bool) → a ≡ true → b ≡ true → (a && b) ≡ true
 and_both true b e f = f

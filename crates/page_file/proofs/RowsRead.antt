@@ -9,8 +9,8 @@ use Rattle.page_file.specs.Values.{text_of, wait_of, within_of, up_to_of, corner
 use Rattle.page_file.specs.Words.{row_of, kind_of}
 use Rattle.page_file.specs.declared.word.Word.TheVariants as word
 use Rattle.page_tree.specs.declared.geometry.PixelBox.{PixelBox}
-use Rattle.wd_json.specs.declared.json.Json.{Json, the_lemmas}
-use Rattle.wd_json.specs.declared.json.Json.TheVariants as json
+use Rattle.wd_json.specs.declared.value.Json.{Json, the_lemmas}
+use Rattle.wd_json.specs.declared.value.Json.TheVariants as json
 
 -- ---- boxes
 

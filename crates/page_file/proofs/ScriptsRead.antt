@@ -16,7 +16,7 @@ use Rattle.page_file.proofs.SeenTexts.{HasKeys, had_is, has_more, differ_push, b
 use Rattle.page_file.specs.Members.{each_of}
 use Rattle.page_file.specs.Scripts.{entry_of, is_good_entry, script_fault_at, scripts_fault}
 use Rattle.page_file.specs.declared.why.Why.TheVariants.{Script}
-use Rattle.wd_json.specs.declared.json.Json.{Json}
+use Rattle.wd_json.specs.declared.value.Json.{Json}
 
 abbrev pub script : BookEntry → List ℕ
 script entry = entry.script

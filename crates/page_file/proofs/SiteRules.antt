@@ -21,7 +21,7 @@ use Rattle.wd_json.specs.Keys.{get}
 use Rattle.page_file.specs.Values.{text_of, list_of}
 use Rattle.page_file.specs.declared.listing.Entry.{Entry}
 use Rattle.page_file.specs.declared.listing.Listing.{Listing}
-use Rattle.wd_json.specs.declared.json.Json.{Json}
+use Rattle.wd_json.specs.declared.value.Json.{Json}
 
 -- the addresses of pages, and of entries
 abbrev pub of_pages : List PageDef → List (List ℕ)

@@ -14,7 +14,7 @@ use Rattle.page_file.proofs.FirstFaults.{first_some, first_none}
 use Rattle.page_file.specs.Members.{each_of}
 use Rattle.page_file.specs.Timers.{timer_of, is_good_timer, is_bad_timer, timer_fault_at, timers_fault}
 use Rattle.page_file.specs.declared.why.Why.TheVariants.{Timer}
-use Rattle.wd_json.specs.declared.json.Json.{Json}
+use Rattle.wd_json.specs.declared.value.Json.{Json}
 
 pub record AreTimersRead (values : List Json) (i : ℕ) (ts : List TimerDef) : Type 0 where
   pub read : each_of timer_of (take i values) ≡ Some ts

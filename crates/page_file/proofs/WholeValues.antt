@@ -4,8 +4,8 @@ use Rattle.page_file.proofs.EachRead.{first_of, second_of}
 use Rattle.wd_json.proofs.Shapes.{data_of-Null, data_of-Bool, data_of-Int, data_of-Text, data_of-List}
 use Rattle.wd_json.specs.Json.{data_of, items_data}
 use Rattle.wd_json.specs.Whole.{is_whole, items_are_whole}
-use Rattle.wd_json.specs.declared.json.Json.{Json}
-use Rattle.wd_json.specs.declared.json.Json.TheVariants as json
+use Rattle.wd_json.specs.declared.value.Json.{Json}
+use Rattle.wd_json.specs.declared.value.Json.TheVariants as json
 
 abbrev pub Whole : Json → Type 0
 Whole v = is_whole (data_of v) ≡ true

@@ -1,8 +1,8 @@
 -- Each word, and each kind of prompts, is found by its own text.
 use Rattle.std.proofs.Common.{◌≡◌, ℕ, List, Some, refl, rules}
 use Rattle.std.specs.Str.{encode_utf8_all}
-use Rattle.wd_json.specs.declared.json.Json.{the_lemmas}
-use Rattle.wd_json.specs.declared.json.Json.TheVariants as json
+use Rattle.wd_json.specs.declared.value.Json.{the_lemmas}
+use Rattle.wd_json.specs.declared.value.Json.TheVariants as json
 use Rattle.page_engine.specs.declared.effect.PromptKind.{PromptKind}
 use Rattle.page_engine.specs.declared.effect.PromptKind.TheVariants as kind
 use Rattle.page_file.specs.Words.{word_text, word_with, word_of, kind_text, kind_with, kind_of}

@@ -9,7 +9,7 @@ use Rattle.page_file.specs.Members.{each_of}
 use Rattle.page_file.specs.Values.{text_of, bool_of, list_of, number_of, whole_of}
 use Rattle.page_file.specs.declared.cell_word.CellWord.{CellWord}
 use Rattle.page_file.specs.declared.cell_word.CellWord.TheVariants as word
-use Rattle.wd_json.specs.declared.json.Json.{Json}
+use Rattle.wd_json.specs.declared.value.Json.{Json}
 
 abbrev pub cell_text : CellWord → List ℕ
 cell_text word.Null = codes "null"

@@ -9,7 +9,7 @@ use Rattle.page_file.specs.declared.listing.Entry.{Entry}
 use Rattle.page_file.specs.declared.page_fault.PageFault.{PageFault}
 use Rattle.page_file.specs.declared.page_fault.PageFault.TheVariants.{Bad, Memory}
 use Rattle.page_file.specs.declared.why.Why.TheVariants.{Address}
-use Rattle.wd_json.specs.declared.json.Json.{Json}
+use Rattle.wd_json.specs.declared.value.Json.{Json}
 
 -- a text whose characters are its bytes, as that of every serialised URL
 abbrev pub IsPlain : List ℕ → Type 0

@@ -16,7 +16,7 @@ use Rattle.page_file.specs.Spelled.{effects_in}
 use Rattle.page_file.specs.Values.{text_of, bool_of, optional_number_of, within_of, box_of}
 use Rattle.page_tree.specs.declared.geometry.PixelBox.{PixelBox}
 use Rattle.wd_json.specs.Keys.{get}
-use Rattle.wd_json.specs.declared.json.Json.{Json}
+use Rattle.wd_json.specs.declared.value.Json.{Json}
 
 -- ---- what the node is
 

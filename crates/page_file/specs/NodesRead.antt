@@ -9,7 +9,7 @@ use Rattle.page_file.specs.declared.page_fault.PageFault.TheVariants.{Bad, Memor
 use Rattle.page_file.specs.declared.why.Why.{Why}
 use Rattle.page_file.specs.declared.why.Why.TheVariants.{Node, Depth, Nodes}
 use Rattle.page_tree.specs.Rows.{max_nodes}
-use Rattle.wd_json.specs.declared.json.Json.{Json}
+use Rattle.wd_json.specs.declared.value.Json.{Json}
 
 -- one flag a node: whether it has a shadow root
 pub record AreFlags (defs : List NodeDef) (flags : List Bool) : Type 0 where

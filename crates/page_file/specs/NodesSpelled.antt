@@ -8,7 +8,7 @@ use Rattle.page_file.specs.NodeFaults.{node_of, says_up, fault_at}
 use Rattle.page_file.specs.declared.page_fault.PageFault.{PageFault}
 use Rattle.page_file.specs.declared.page_fault.PageFault.TheVariants.{Bad, Memory}
 use Rattle.page_file.specs.declared.why.Why.{Why}
-use Rattle.wd_json.specs.declared.json.Json.{Json}
+use Rattle.wd_json.specs.declared.value.Json.{Json}
 
 pub record AreNodesOf (values : List Json) (nodes : List NodeDef) : Type 0 where
   pub spelled : each_of node_of values ≡ Some nodes

@@ -8,7 +8,7 @@ use Rattle.page_file.specs.Timers.{timers_fault}
 use Rattle.page_file.specs.declared.page_fault.PageFault.{PageFault}
 use Rattle.page_file.specs.declared.page_fault.PageFault.TheVariants.{Bad, Memory}
 use Rattle.page_file.specs.declared.why.Why.TheVariants.{Shape}
-use Rattle.wd_json.specs.declared.json.Json.{Json}
+use Rattle.wd_json.specs.declared.value.Json.{Json}
 
 -- nodes, then timers, then scripts
 abbrev pub list_faults : Parts → List (Option Fault)

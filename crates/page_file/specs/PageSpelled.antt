@@ -10,8 +10,8 @@ use Rattle.page_file.specs.Scripts.{entry_of}
 use Rattle.page_file.specs.Timers.{timer_of}
 use Rattle.page_file.specs.Values.{list_of}
 use Rattle.wd_json.specs.Keys.{get}
-use Rattle.wd_json.specs.declared.json.Json.{Json, out-Json}
-use Rattle.wd_json.specs.declared.json.Json.TheOpen.{Json-F}
+use Rattle.wd_json.specs.declared.value.Json.{Json, out-Json}
+use Rattle.wd_json.specs.declared.value.Json.TheOpen.{Json-F}
 
 -- ---- the top object
 

@@ -17,8 +17,8 @@ use Rattle.page_file.specs.declared.page_fault.PageFault.TheVariants.{Bad, Memor
 use Rattle.page_file.specs.declared.why.Why.{Why}
 use Rattle.page_file.specs.declared.why.Why.TheVariants.{Script}
 use Rattle.wd_json.specs.Keys.{get}
-use Rattle.wd_json.specs.declared.json.Json.{Json, out-Json}
-use Rattle.wd_json.specs.declared.json.Json.TheOpen.{Json-F}
+use Rattle.wd_json.specs.declared.value.Json.{Json, out-Json}
+use Rattle.wd_json.specs.declared.value.Json.TheOpen.{Json-F}
 
 abbrev end_value : {A : Type 0} → Json-F A → Option (Option ℕ)
 end_value Json-F.Null = Some None

@@ -22,7 +22,7 @@ use Rattle.wd_http.specs.Causes.{Rose}
 use Rattle.wd_http.specs.Files.{file_at}
 use Rattle.wd_json.specs.Json.{data_of}
 use Rattle.wd_json.specs.Whole.{ReadsAs, is_whole}
-use Rattle.wd_json.specs.declared.json.Json.{Json}
+use Rattle.wd_json.specs.declared.value.Json.{Json}
 
 -- a file has at most so many bytes
 abbrev pub file_limit : ℕ

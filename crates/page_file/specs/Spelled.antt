@@ -8,7 +8,7 @@ use Rattle.page_file.specs.Values.{text_of, optional_text_of, bool_of, list_of, 
 use Rattle.page_file.specs.Words.{row_of, kind_of}
 use Rattle.page_file.specs.declared.word.Word.{Word}
 use Rattle.page_file.specs.declared.word.Word.TheVariants as word
-use Rattle.wd_json.specs.declared.json.Json.{Json}
+use Rattle.wd_json.specs.declared.value.Json.{Json}
 
 -- ---- the forms of rows
 

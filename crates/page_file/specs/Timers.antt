@@ -12,7 +12,7 @@ use Rattle.page_file.specs.declared.page_fault.PageFault.TheVariants.{Bad, Memor
 use Rattle.page_file.specs.declared.why.Why.{Why}
 use Rattle.page_file.specs.declared.why.Why.TheVariants.{Timer}
 use Rattle.wd_json.specs.Keys.{get}
-use Rattle.wd_json.specs.declared.json.Json.{Json}
+use Rattle.wd_json.specs.declared.value.Json.{Json}
 
 abbrev pub timer_names : List (List ℕ)
 timer_names = codes "at" ∷ codes "do" ∷ []

@@ -3,8 +3,8 @@ use Rattle.std.specs.Prelude.{ℕ, ℤ, ◌^◌, ◌-◌, pos, nat_lt, Bool, Lis
 use Rattle.std.specs.Option.{option_map, option_and_then}
 use Rattle.page_engine.specs.Fitting.{is_within, is_up_to, is_wait}
 use Rattle.page_tree.specs.declared.geometry.PixelBox.{PixelBox}
-use Rattle.wd_json.specs.declared.json.Json.{Json, out-Json}
-use Rattle.wd_json.specs.declared.json.Json.TheOpen.{Json-F}
+use Rattle.wd_json.specs.declared.value.Json.{Json, out-Json}
+use Rattle.wd_json.specs.declared.value.Json.TheOpen.{Json-F}
 
 abbrev text_in : {A : Type 0} → Json-F A → Option (List ℕ)
 text_in (Json-F.Text t) = Some t

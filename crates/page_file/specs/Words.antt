@@ -8,7 +8,7 @@ use Rattle.page_engine.specs.declared.effect.PromptKind.TheVariants as kind
 use Rattle.page_file.specs.Values.{text_of, list_of}
 use Rattle.page_file.specs.declared.word.Word.{Word}
 use Rattle.page_file.specs.declared.word.Word.TheVariants.{Remove, Insert, Attr, Text, Pixels, Layer, Hidden, Value, Checked, Focus, Prompt, Go, Open, After}
-use Rattle.wd_json.specs.declared.json.Json.{Json}
+use Rattle.wd_json.specs.declared.value.Json.{Json}
 
 abbrev pub word_text : Word → List ℕ
 word_text Remove = codes "remove"

@@ -4,7 +4,7 @@ ghost use Rattle.page_engine.specs.declared.site.Site.{Site as AnySite};
 ghost use Rattle.page_file.specs.SiteFiles.{FileMap, IsSiteOf, IsFirstFault, IsOfFiles};
 ghost use Rattle.page_file.specs.declared.listing.Listing.{Listing as AnyListing};
 ghost use Rattle.page_file.specs.declared.site_fault.SiteFault.{SiteFault as AnyFault};
-ghost use Rattle.wd_json.specs.declared.json.Json.{Json as AnyJson};
+ghost use Rattle.wd_json.specs.declared.value.Json.{Json as AnyJson};
 
 /// A law, to be cited: a value spells a listing exactly if nothing is wrong with it.
 pub fn listing_unless_fault()

@@ -1,7 +1,7 @@
 ghost use Rattle.std.specs.Prelude.{◌≡◌, ℕ, List, IfOk, IfErr, OnOk, None};
 ghost use Rattle.page_engine.specs.Pages.{IsLawfulPage};
 ghost use Rattle.page_engine.specs.declared.page_def.PageDef.{PageDef};
-ghost use Rattle.wd_json.specs.declared.json.Json.{Json};
+ghost use Rattle.wd_json.specs.declared.value.Json.{Json};
 ghost use Rattle.page_file.specs.PageFaults.{page_fault, IsPageCause};
 ghost use Rattle.page_file.specs.PageSpelled.{IsPageOf};
 

@@ -5,7 +5,7 @@ ghost use Rattle.page_file.specs.Index.{IsIndexOf};
 ghost use Rattle.page_file.specs.Listings.{IsListingOf, listing_fault};
 ghost use Rattle.page_file.specs.PageFaults.{page_fault};
 ghost use Rattle.page_file.specs.SiteFiles.{files_limit, file_limit, bytes_at, size_at, IsFileOf, IsListingFile, IsPageFile, IsFileFault, IsReadCause};
-ghost use Rattle.wd_json.specs.declared.json.Json.{Json as AnyJson};
+ghost use Rattle.wd_json.specs.declared.value.Json.{Json as AnyJson};
 
 use crate::listing::{Entry, Listing};
 use crate::page::read_page;

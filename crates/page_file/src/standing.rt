@@ -3,7 +3,7 @@ ghost use Rattle.page_engine.specs.Nodes.{is_shadow_of, may_stand, is_node, has_
 ghost use Rattle.page_file.specs.Members.{object_of};
 ghost use Rattle.page_file.specs.NodeFaults.{depth_after, starts};
 ghost use Rattle.page_file.specs.NodesRead.{AreFlags, AreDepths, IsDepthChecked, IsCheckFault};
-ghost use Rattle.wd_json.specs.declared.json.Json.{Json};
+ghost use Rattle.wd_json.specs.declared.value.Json.{Json};
 
 use crate::why::Why;
 use page_engine::{NodeDef, NodeKind};

@@ -12,8 +12,8 @@ use Rattle.parameters.specs.declared.kind.Kind.TheVariants.{Span}
 use Rattle.parameters.proofs.Lookups.{get-value, object_of-Object}
 use Rattle.wd_errors.specs.declared.code.Code.{Code}
 use Rattle.wd_json.specs.Keys.{get}
-use Rattle.wd_json.specs.declared.json.Json.{Json}
-use Rattle.wd_json.specs.declared.json.Json.TheVariants.{Object}
+use Rattle.wd_json.specs.declared.value.Json.{Json}
+use Rattle.wd_json.specs.declared.value.Json.TheVariants.{Object}
 
 abbrev span_in : Option Json → ℕ → Option ℕ
 span_in value base = option_map_or span_of value (Some base)

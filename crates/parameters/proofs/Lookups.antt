@@ -6,8 +6,8 @@ use Rattle.std.specs.Option.{option_map}
 use Rattle.std.specs.Str.{encode_utf8_all}
 use Rattle.capabilities.specs.Values.{Member, Members, same_text, object_of, value_of}
 use Rattle.wd_json.specs.Keys.{get}
-use Rattle.wd_json.specs.declared.json.Json.{Json, the_lemmas}
-use Rattle.wd_json.specs.declared.json.Json.TheVariants.{Object}
+use Rattle.wd_json.specs.declared.value.Json.{Json, the_lemmas}
+use Rattle.wd_json.specs.declared.value.Json.TheVariants.{Object}
 
 pub object_of-Object : (ms : Members) → object_of (Object ms) ≡ Some ms
 object_of-Object ms = search (the_lemmas, rules)

@@ -9,8 +9,8 @@ use Rattle.parameters.specs.Refusals.{refusal_in}
 use Rattle.wd_json.specs.Data.{Data}
 use Rattle.wd_errors.specs.declared.code.Code.{Code}
 use Rattle.wd_json.proofs.Alone.{same_data}
-use Rattle.wd_json.specs.declared.json.Json.{Json}
-use Rattle.wd_json.specs.declared.json.Json.TheVariants.{Object}
+use Rattle.wd_json.specs.declared.value.Json.{Json}
+use Rattle.wd_json.specs.declared.value.Json.TheVariants.{Object}
 
 same_members : (a b : Members) → Object a ≡ Object b → a ≡ b
 same_members a b e =

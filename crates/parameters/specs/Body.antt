@@ -8,7 +8,7 @@ use Rattle.parameters.specs.declared.fault.ParamFault.TheVariants.{Refused, Memo
 use Rattle.wd_errors.specs.declared.code.Code.TheVariants.{InvalidArgument}
 use Rattle.wd_json.specs.Json.{data_of}
 use Rattle.wd_json.specs.Whole.{ReadsAs, is_whole}
-use Rattle.wd_json.specs.declared.json.Json.TheVariants.{Object}
+use Rattle.wd_json.specs.declared.value.Json.TheVariants.{Object}
 
 -- the bytes are the text of this JSON object, whose numbers are whole
 pub record IsObjectOf (bytes : List ℕ) (members : Members) : Type 0 where

@@ -10,8 +10,8 @@ use Rattle.parameters.specs.declared.kind.Kind.TheVariants as kind
 use Rattle.wd_errors.specs.declared.code.Code.{Code}
 use Rattle.wd_errors.specs.declared.code.Code.TheVariants.{InvalidArgument, UnsupportedOperation}
 use Rattle.wd_json.specs.Keys.{get}
-use Rattle.wd_json.specs.declared.json.Json.{Json, out-Json}
-use Rattle.wd_json.specs.declared.json.Json.TheOpen.{Json-F}
+use Rattle.wd_json.specs.declared.value.Json.{Json, out-Json}
+use Rattle.wd_json.specs.declared.value.Json.TheOpen.{Json-F}
 
 abbrev pub invalid_unless : Bool → Option Code
 invalid_unless true = None

@@ -8,8 +8,8 @@ use Rattle.parameters.specs.declared.fault.ParamFault.{ParamFault}
 use Rattle.parameters.specs.declared.fault.ParamFault.TheVariants.{Refused, Memory}
 use Rattle.wd_errors.specs.declared.code.Code.{Code}
 use Rattle.wd_errors.specs.declared.code.Code.TheVariants.{InvalidArgument}
-use Rattle.wd_json.specs.declared.json.Json.{Json}
-use Rattle.wd_json.specs.declared.json.Json.TheVariants.{Object}
+use Rattle.wd_json.specs.declared.value.Json.{Json}
+use Rattle.wd_json.specs.declared.value.Json.TheVariants.{Object}
 
 -- the request's object, and its command doesn't refuse it
 pub record IsParametersOf (route : Route) (body : List ℕ) (json : Json) : Type 0 where

@@ -1,7 +1,7 @@
 ghost use Rattle.std.specs.Prelude.{◌≡◌, true, IfOk, IfErr};
 ghost use Rattle.wd_json.specs.Json.{data_of};
 ghost use Rattle.wd_json.specs.Whole.{is_whole};
-ghost use Rattle.wd_json.specs.declared.json.Json.TheVariants.{Object};
+ghost use Rattle.wd_json.specs.declared.value.Json.TheVariants.{Object};
 ghost use Rattle.parameters.specs.Body.{is_post as posts, IsObjectOf, IsObjectFor, IsNoObject, LacksObject};
 
 use crate::fault::ParamFault;

@@ -8,8 +8,8 @@ ghost use Rattle.parameters.specs.Kinds.{invalid_unless};
 ghost use Rattle.parameters.specs.Parameters.{IsParametersOf, IsRefusedBy};
 ghost use Rattle.parameters.specs.Refusals.{refusal_in};
 ghost use Rattle.wd_errors.specs.declared.code.Code.{Code as AnyCode};
-ghost use Rattle.wd_json.specs.declared.json.Json.{Json as AnyJson};
-ghost use Rattle.wd_json.specs.declared.json.Json.TheVariants.{Object};
+ghost use Rattle.wd_json.specs.declared.value.Json.{Json as AnyJson};
+ghost use Rattle.wd_json.specs.declared.value.Json.TheVariants.{Object};
 
 /// A law, to be cited: a request has one object of parameters at most, it is refused with one code
 /// at most, and no request has both.

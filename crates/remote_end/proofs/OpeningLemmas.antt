@@ -6,7 +6,7 @@ use Rattle.capabilities.specs.Processed.{processed}
 use Rattle.capabilities.specs.Timeouts.{AreInRange}
 use Rattle.capabilities.specs.declared.matched.Matched.{Matched}
 use Rattle.waits.specs.Moments.{last_moment}
-use Rattle.wd_json.specs.declared.json.Json.{Json}
+use Rattle.wd_json.specs.declared.value.Json.{Json}
 use Rattle.remote_end.specs.declared.reply.Reply.{Reply}
 use Rattle.remote_end.specs.declared.session.Session.{Session}
 use Rattle.remote_end.specs.Setting.{Setting}

@@ -5,7 +5,7 @@ use Rattle.std.proofs.lemmas.List.Elements.{All-append, All-take, All-drop}
 use Rattle.std.proofs.lemmas.Option.{slice_get_read}
 use Rattle.endpoints.specs.declared.command.Command.{Command}
 use Rattle.endpoints.specs.declared.command.Command.TheVariants.{DeleteSession}
-use Rattle.wd_json.specs.declared.json.Json.TheVariants.{Null}
+use Rattle.wd_json.specs.declared.value.Json.TheVariants.{Null}
 use Rattle.remote_end.specs.declared.order.Order.{Order}
 use Rattle.remote_end.specs.declared.reply.Reply.{Reply}
 use Rattle.remote_end.specs.declared.session.Session.{Session}

@@ -17,8 +17,8 @@ use Rattle.selectors.specs.declared.selector.Scope.{Scope}
 use Rattle.selectors.specs.declared.selector.Scope.TheVariants.{Under}
 use Rattle.wd_errors.specs.declared.code.Code.{Code}
 use Rattle.wd_errors.specs.declared.code.Code.TheVariants.{InvalidSelector, NoSuchElement, UnknownError}
-use Rattle.wd_json.specs.declared.json.Json.{Json}
-use Rattle.wd_json.specs.declared.json.Json.TheVariants.{List as ListValue}
+use Rattle.wd_json.specs.declared.value.Json.{Json}
+use Rattle.wd_json.specs.declared.value.Json.TheVariants.{List as ListValue}
 use Rattle.remote_end.specs.declared.finds.Wanted.{Wanted}
 use Rattle.remote_end.specs.declared.finds.Wanted.TheVariants.{First, All}
 use Rattle.remote_end.specs.declared.session.Session.{Session}

@@ -18,8 +18,8 @@ use Rattle.references.specs.declared.kind.Kind.TheVariants.{Element, Shadow}
 use Rattle.references.specs.declared.name.NodeName.{NodeName}
 use Rattle.wd_errors.specs.declared.code.Code.{Code}
 use Rattle.wd_errors.specs.declared.code.Code.TheVariants.{InvalidArgument, NoSuchShadowRoot, UnsupportedOperation}
-use Rattle.wd_json.specs.declared.json.Json.{Json}
-use Rattle.wd_json.specs.declared.json.Json.TheVariants.{Null, Text}
+use Rattle.wd_json.specs.declared.value.Json.{Json}
+use Rattle.wd_json.specs.declared.value.Json.TheVariants.{Null, Text}
 use Rattle.remote_end.specs.declared.order.Order.{Order}
 use Rattle.remote_end.specs.declared.session.Session.{Session}
 use Rattle.remote_end.specs.Setting.{Setting}

@@ -40,7 +40,7 @@ impl Model for Remote {
     ghost use Rattle.std.specs.Coded.{codes};
     ghost use Rattle.page_engine.specs.Sites.{IsLawfulSite};
     ghost use Rattle.page_engine.specs.contracts.effect.Effect as effect;
-    ghost use Rattle.wd_json.specs.contracts.json.Json as json;
+    ghost use Rattle.wd_json.specs.contracts.value.Json as json;
 
     ghost Value = { Standing };
 

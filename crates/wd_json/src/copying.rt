@@ -1,9 +1,9 @@
 ghost use Rattle.std.specs.Prelude.{◌≡◌, IfOk};
 
-use crate::json::{Json, JsonList, JsonMap};
 use crate::list::WdList;
 use crate::map::WdMap;
 use crate::memory::Memory;
+use crate::value::{Json, JsonList, JsonMap};
 use std::alloc::Global;
 
 /// An equal value. `Memory` where there is no memory for it.

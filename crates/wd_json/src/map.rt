@@ -83,6 +83,13 @@ impl<V> WdMap<V> {
         }
     }
 
+    /// Gives back the room that no entry stands in.
+    pub fn shrink(&mut self)
+        ensures { self.new ≡ self.old }
+    {
+        self.entries.shrink_to_fit();
+    }
+
     // Where the key is, or where it would go.
     fn place(&self, key: &str) -> Result<usize, usize>
         ensures found { IfOk result (IsAt key.now self.now) }

@@ -4,13 +4,14 @@ ghost use Rattle.serde_json.specs.View.{view, number_view, items_view, members_v
 ghost use Rattle.wd_json.specs.Json.{data_of, items_data, members_data};
 ghost use Rattle.wd_json.specs.Whole.{is_whole_number, is_whole, items_are_whole, members_are_whole, ReadsAs, IsCause, IsRefusal};
 ghost use Rattle.serde_json.specs.Data.{array, object};
-ghost use Rattle.wd_json.specs.declared.json.Json.{Json as JsonValue};
+ghost use Rattle.wd_json.specs.declared.value.Json.{Json as JsonValue};
 
 use crate::fault::JsonFault;
-use crate::json::{Json, JsonList, JsonMap};
 use crate::list::WdList;
 use crate::map::WdMap;
 use crate::text::WdText;
+use crate::tokens::of_tokens;
+use crate::value::{Json, JsonList, JsonMap};
 use serde_json::{Map, Number, Value};
 use std::alloc::Global;
 
@@ -35,6 +36,18 @@ pub fn read(alloc: Global, bytes: &[u8]) -> Result<Json, JsonFault>
 }
 
 fn parse(alloc: Global, bytes: &[u8]) -> Result<Json, JsonFault>
+    ensures reads { IfOk result (λ json. ReadsAs bytes.now (data_of json)) }
+    ensures whole { IfOk result (λ json. is_whole (data_of json) ≡ true) }
+    ensures cause { IfErr result (IsCause bytes.now) }
+{
+    match of_tokens(alloc, bytes) {
+        Some(json) => Ok(json),
+        None => judged(alloc, bytes),
+    }
+}
+
+// The value, by way of `serde_json`'s own, or why there is none.
+fn judged(alloc: Global, bytes: &[u8]) -> Result<Json, JsonFault>
     ensures reads { IfOk result (λ json. ReadsAs bytes.now (data_of json)) }
     ensures whole { IfOk result (λ json. is_whole (data_of json) ≡ true) }
     ensures cause { IfErr result (IsCause bytes.now) }

@@ -8,8 +8,8 @@ ghost use Rattle.serde_json.specs.Written.{compact_text};
 ghost use Rattle.wd_json.specs.Json.{data_of, items_data, members_data};
 
 use crate::bytes::WdBytes;
-use crate::json::{Json, JsonList, JsonMap};
 use crate::memory::Memory;
+use crate::value::{Json, JsonList, JsonMap};
 use serde_json::{Map, Value};
 use std::alloc::Global;
 

@@ -1,6 +1,6 @@
 use Rattle.std.proofs.Common.{sym, subst, refl, ap, ◌∙◌}
 use Rattle.wd_json.specs.Keys.{KeysRise}
-use Rattle.wd_json.specs.declared.json.Json.TheVariants.{Object}
+use Rattle.wd_json.specs.declared.value.Json.TheVariants.{Object}
 use Rattle.capabilities.specs.Table.{all_capabilities}
 use Rattle.capabilities.specs.Echo.{echoed_at}
 use Rattle.capabilities.proofs.Keys.{echoed-rise, row-made, row-added, rows-made}

@@ -1,6 +1,6 @@
 use Rattle.std.proofs.Common.{◌≡◌, drop, Bool}
 use Rattle.std.specs.List.{find, list_all}
-use Rattle.wd_json.specs.declared.json.Json.{Json}
+use Rattle.wd_json.specs.declared.value.Json.{Json}
 use Rattle.capabilities.specs.Values.{members_of}
 use Rattle.capabilities.specs.Table.{is_match}
 use Rattle.capabilities.specs.Choice.{merge}

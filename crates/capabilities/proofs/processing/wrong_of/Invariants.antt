@@ -1,5 +1,5 @@
 use Rattle.std.proofs.Common.{◌≡◌, drop, List, ℕ, Option}
-use Rattle.wd_json.specs.declared.json.Json.{Json}
+use Rattle.wd_json.specs.declared.value.Json.{Json}
 use Rattle.capabilities.specs.Values.{members_of}
 use Rattle.capabilities.specs.Choice.{first_of, wrong_in}
 use Rattle.capabilities.proofs.processing.wrong_of.Given as goal

@@ -1,6 +1,6 @@
 use Rattle.std.proofs.Common.{pos, sym, ap, ◌∙◌, subst}
 use Rattle.wd_json.specs.Keys.{KeysRise}
-use Rattle.wd_json.specs.declared.json.Json.TheVariants.{Int, Object}
+use Rattle.wd_json.specs.declared.value.Json.TheVariants.{Int, Object}
 use Rattle.capabilities.proofs.Keys.{three-rise, three-pushed}
 use Rattle.capabilities.proofs.Whole.{Whole}
 use Rattle.capabilities.proofs.EchoWhole.{timeouts_object-whole}

@@ -6,7 +6,7 @@ use Rattle.page_file.specs.Index.{IsIndexOf}
 use Rattle.page_file.specs.declared.listing.Entry.{Entry}
 use Rattle.page_file.proofs.EntrySteps.{AreEntriesRead, entry_more, entry_cause, entries_end, entries_faultless}
 use Rattle.page_file.proofs.entries.read_entries.Goals as goal
-use Rattle.wd_json.specs.declared.json.Json.{Json}
+use Rattle.wd_json.specs.declared.value.Json.{Json}
 
 pub returns-in_err-entry-clause-cause : goal.returns-in_err-entry-clause-cause
 returns-in_err-entry-clause-cause c =

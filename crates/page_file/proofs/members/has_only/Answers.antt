@@ -3,7 +3,7 @@ use Rattle.std.proofs.lemmas.List.Folds.{list_all_at}
 use Rattle.std.specs.List.{list_all, list_any}
 use Rattle.std.specs.Str.{bytes_eq, encode_utf8_all}
 use Rattle.page_file.proofs.members.has_only.Goals as goal
-use Rattle.wd_json.specs.declared.json.Json.{Json}
+use Rattle.wd_json.specs.declared.value.Json.{Json}
 
 no_longer : (b : Bool) → b ≡ false → false ≡ b
 no_longer b e = sym e

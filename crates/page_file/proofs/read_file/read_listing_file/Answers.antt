@@ -2,7 +2,7 @@ use Rattle.std.proofs.Common.{◌≡◌, ◌+◌, ◌≤◌, Some, IsTrue, rules
 use Rattle.page_file.proofs.FileFaults.{bad_value_at, bad_fault, of_err}
 use Rattle.page_file.specs.Listings.{listing_fault}
 use Rattle.page_file.specs.SiteFiles.{files_limit, size_at, IsFileFault}
-use Rattle.wd_json.specs.declared.json.Json.{Json}
+use Rattle.wd_json.specs.declared.value.Json.{Json}
 use Rattle.page_file.proofs.read_file.read_listing_file.Goals as goal
 
 pub returns-in_err-value-clause-fault : goal.returns-in_err-value-clause-fault

@@ -5,7 +5,7 @@ use Rattle.page_file.specs.SiteFiles.{files_limit, IsFileFault, IsTextOf}
 use Rattle.page_file.specs.declared.why.Why.TheVariants as reason
 use Rattle.wd_json.specs.Whole.{IsCause}
 use Rattle.wd_json.specs.declared.fault.JsonFault.TheVariants as json
-use Rattle.wd_json.specs.declared.json.Json.{Json}
+use Rattle.wd_json.specs.declared.value.Json.{Json}
 use Rattle.page_file.proofs.read_file.read_value.Goals as goal
 
 pub returns-in_err-bytes-clause-fault : goal.returns-in_err-bytes-clause-fault

@@ -5,8 +5,8 @@ use Rattle.page_file.specs.Values.{within_of, up_to_of, optional_box_of}
 use Rattle.page_file.proofs.EachRead.{box_parts}
 use Rattle.page_file.proofs.RowsRead.{box_read}
 use Rattle.page_file.proofs.spelling.box_list.Goals as goal
-use Rattle.wd_json.specs.declared.json.Json.{Json}
-use Rattle.wd_json.specs.declared.json.Json.TheVariants as json
+use Rattle.wd_json.specs.declared.value.Json.{Json}
+use Rattle.wd_json.specs.declared.value.Json.TheVariants as json
 
 corner_at : (v : Json) (y z : ℤ) → y ≡ z → (is_within 1000000 y ≡ true → within_of 1000000 v ≡ Some y) → is_within 1000000 z ≡ true → within_of 1000000 v ≡ Some z
 corner_at v y z e k h = k (ap (is_within 1000000) e ∙ h) ∙ ap Some e

@@ -7,8 +7,8 @@ use Rattle.page_file.proofs.WholeValues.{list_whole, items_more}
 use Rattle.page_file.proofs.writing.+json.Goals as goal
 use Rattle.wd_json.specs.Json.{data_of, items_data}
 use Rattle.wd_json.specs.Whole.{is_whole, items_are_whole}
-use Rattle.wd_json.specs.declared.json.Json.{Json}
-use Rattle.wd_json.specs.declared.json.Json.TheVariants as json
+use Rattle.wd_json.specs.declared.value.Json.{Json}
+use Rattle.wd_json.specs.declared.value.Json.TheVariants as json
 
 pub all_json-loop-effect-preserved : goal.all_json-loop-effect-preserved
 all_json-loop-effect-preserved t c =

@@ -1,6 +1,6 @@
 ghost use Rattle.std.specs.Prelude.{◌≡◌};
 ghost use Rattle.wd_json.specs.Json.{data_of};
-ghost use Rattle.wd_json.specs.declared.json.Json.{Json};
+ghost use Rattle.wd_json.specs.declared.value.Json.{Json};
 
 use crate::list::WdList;
 use crate::map::WdMap;
