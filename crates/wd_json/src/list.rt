@@ -1,4 +1,4 @@
-ghost use Rattle.std.specs.Prelude.{◌≡◌, [], ◌∷◌, ◌++◌, ◌<◌, Some, length, slice_get, ◌↔◌, IsTrue, OnOk, OnErr};
+ghost use Rattle.std.specs.Prelude.{◌≡◌, [], ◌∷◌, ◌++◌, ◌<◌, Some, length, remove, slice_get, ◌↔◌, IsTrue, OnOk, OnErr};
 
 use crate::memory::Memory;
 use sqlite_items::Items;
@@ -73,6 +73,15 @@ impl<T> WdList<T> {
 }
 
 impl<T: Drop> WdList<T> {
+    /// Takes out the item at place `i`; the later ones move up. It takes no memory.
+    pub fn take_out(&mut self, i: usize) -> T
+        requires { i < length self.old }
+        ensures item { slice_get self.old i ≡ Some result }
+        ensures rest { self.new ≡ remove self.old i }
+    {
+        self.items.remove(i)
+    }
+
     /// Adds an item at the end. After `Memory` the list is as it was, and the item is dropped.
     pub fn push(&mut self, item: T) -> Result<(), Memory>
         ensures ok { OnOk result (self.new ≡ self.old ++ item ∷ []) }
