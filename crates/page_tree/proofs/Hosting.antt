@@ -3,11 +3,12 @@ use Rattle.std.proofs.Common.{◌≡◌, ◌≢◌, ℕ, zero, suc, ◌<◌, ◌
 use Rattle.std.proofs.lemmas.List.{get_or-set_same, get_or-set_other, get_or_past}
 use Rattle.std.proofs.lemmas.Bool.{cases_eq, cases_lt}
 use Rattle.page_tree.specs.Places.{up_of, shadow_of, times, points_to, onwards, chain, depth, max_depth, is_root_of, is_hosted, own_up}
-use Rattle.page_tree.specs.Rows.{Rows, IsTree, hosting, shadow_root, count, max_nodes, is_shadow, is_shadow_kind}
+use Rattle.page_tree.specs.Rows.{Rows, IsTree, hosting, shadow_root, count, max_nodes, is_element, is_shadow, is_shadow_kind}
 use Rattle.page_tree.proofs.Chains.{chain-suc, chain-zero}
+use Rattle.page_tree.proofs.Names.{none_differ, names_pushed}
 use Rattle.page_tree.proofs.NodeKinds.{kind_pushed_here, kind_pushed_other, element_pushed, focus_kept}
 use Rattle.page_tree.proofs.Reach.{stable_down}
-use Rattle.page_tree.proofs.Trees.{chain_alone, up_grown, kids_grown, up_parent_within}
+use Rattle.page_tree.proofs.Trees.{chain_alone, up_grown, kids_grown, leaves_pushed, up_parent_within}
 
 up_pushed_here : (ups : List (Option ℕ)) (o : Option ℕ) (n : ℕ) → n ≡ length ups → up_of (ups ++ o ∷ []) n ≡ o
 up_pushed_here [] o zero at = refl
@@ -121,8 +122,8 @@ module _ (rows : Rows) (host : ℕ) (tree : IsTree rows) (within : host < count 
     ]
   ]
 
-pub hosting_is_tree : (rows : Rows) (host : ℕ) → IsTree rows → count rows < max_nodes → host < count rows → shadow_of rows.shadows host ≡ None → depth rows.ups host < max_depth → IsTree (hosting rows host)
-hosting_is_tree rows host tree room within free shallow = record {
+pub hosting_is_tree : (rows : Rows) (host : ℕ) → IsTree rows → count rows < max_nodes → host < count rows → is_element rows host ≡ true → shadow_of rows.shadows host ≡ None → depth rows.ups host < max_depth → IsTree (hosting rows host)
+hosting_is_tree rows host tree room within element free shallow = record {
   some = omega (arith, length-append rows.ups (Some host ∷ []));
   few = omega (arith, length-append rows.ups (Some host ∷ []));
   kids_of_each = omega (arith, length-append rows.ups (Some host ∷ []), length-append rows.kids ([] ∷ []), tree.kids_of_each);
@@ -134,4 +135,10 @@ hosting_is_tree rows host tree room within free shallow = record {
   roots = kinds rows host tree within free;
   shallow = short rows host tree within free shallow;
   focused = focus_kept rows.focus rows.contents (rows.contents ++ shadow_root ∷ []) (element_pushed rows.contents shadow_root) tree.focused;
+  leaves = leaves_pushed rows shadow_root tree;
+  hosts = λ p m is. element_pushed rows.contents shadow_root p (elim (cases_eq p host) [
+    | inl same ↦ ap (is_element rows) same ∙ element
+    | inr away ↦ tree.hosts p m (sym (shadow_other rows host tree within free p away) ∙ is)
+  ]);
+  names = names_pushed rows.contents shadow_root none_differ tree.names;
 }

@@ -5,6 +5,7 @@ pub mod Displays
 pub mod Heights
 pub mod Hosting
 pub mod Moves
+pub mod Names
 pub mod NodeKinds
 pub mod Nodes
 pub mod Orders

@@ -6,7 +6,7 @@ use Rattle.page_tree.specs.Faults.{move_refusal}
 use Rattle.page_tree.specs.Inside.{seen}
 use Rattle.page_tree.specs.declared.geometry.Point.{Point}
 use Rattle.page_tree.specs.declared.fault.TreeFault.TheVariants.{Depth, Cycle}
-use Rattle.page_tree.specs.Rows.{Rows, IsTree, detached, attached, moved, count, is_shadow}
+use Rattle.page_tree.specs.Rows.{Rows, IsTree, detached, attached, moved, count, is_shadow, is_text}
 use Rattle.page_tree.proofs.Trees.{moved_is_tree, detached_is_tree}
 
 ups_moved : (rows : Rows) (m p place : ℕ) → (moved rows m p place).ups ≡ set rows.ups m (Some p)
@@ -23,11 +23,11 @@ refusal_now rows now focus scroll view m p place above fits a f = sym (refusal_i
 
 -- after the writes of a move
 pub moved_nodes : (rows mid new now : Rows) (focus : Option ℕ) (scroll : Point) (m p place : ℕ) → seen rows focus scroll ≡ now → mid ≡ detached rows m → new ≡ attached mid m p place
-    → IsTree (seen rows focus scroll) → 0 < m → is_shadow now m ≡ false → m < count now → p < count now → true ≡ all_shallow (set rows.ups m (Some p)) → IsTree (seen new focus scroll)
-moved_nodes rows mid new now focus scroll m p place view first second tree not_top plain m_in p_in shallow =
+    → IsTree (seen rows focus scroll) → 0 < m → is_shadow now m ≡ false → is_text now p ≡ false → m < count now → p < count now → true ≡ all_shallow (set rows.ups m (Some p)) → IsTree (seen new focus scroll)
+moved_nodes rows mid new now focus scroll m p place view first second tree not_top plain no_text m_in p_in shallow =
     let same : length rows.ups ≡ length now.ups = ap (λ r. length r.ups) view in
     subst IsTree (sym (ap (λ r. seen r focus scroll) (second ∙ ap (λ r. attached r m p place) first)))
-    (moved_is_tree (seen rows focus scroll) m p place tree not_top (ap (λ r. is_shadow r m) view ∙ plain) (omega arith) (omega arith) (ap all_shallow (ups_moved rows m p place) ∙ sym shallow))
+    (moved_is_tree (seen rows focus scroll) m p place tree not_top (ap (λ r. is_shadow r m) view ∙ plain) (ap (λ r. is_text r p) view ∙ no_text) (omega arith) (omega arith) (ap all_shallow (ups_moved rows m p place) ∙ sym shallow))
 
 -- where there was no memory for it
 pub detached_nodes : (rows mid new now : Rows) (focus : Option ℕ) (scroll : Point) (m : ℕ) → seen rows focus scroll ≡ now → mid ≡ detached rows m → new ≡ mid

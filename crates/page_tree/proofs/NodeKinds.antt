@@ -58,6 +58,13 @@ shadow_kind_texted text zero (c ∷ contents) h (suc n) = refl
 shadow_kind_texted text (suc at) (c ∷ contents) h zero = refl
 shadow_kind_texted text (suc at) (c ∷ contents) h (suc n) = shadow_kind_texted text at contents h n
 
+pub text_kind_texted : (text : List ℕ) (at : ℕ) (contents : List Content) → is_text_kind (kind_at contents at) ≡ true → (n : ℕ) → is_text_kind (kind_at (change_at at (texted text) contents) n) ≡ is_text_kind (kind_at contents n)
+text_kind_texted text at [] h n = refl
+text_kind_texted text zero (c ∷ contents) h zero = sym h
+text_kind_texted text zero (c ∷ contents) h (suc n) = refl
+text_kind_texted text (suc at) (c ∷ contents) h zero = refl
+text_kind_texted text (suc at) (c ∷ contents) h (suc n) = text_kind_texted text at contents h n
+
 pub element_kind_texted : (text : List ℕ) (at : ℕ) (contents : List Content) → is_text_kind (kind_at contents at) ≡ true → (n : ℕ) → is_element_kind (kind_at (change_at at (texted text) contents) n) ≡ is_element_kind (kind_at contents n)
 element_kind_texted text at [] h n = refl
 element_kind_texted text zero (c ∷ contents) h zero = sym (text_is_no_element c.kind h)

@@ -1,9 +1,10 @@
 -- The nodes of a `Document` after each kind of write, as rows.
-use Rattle.std.proofs.Common.{◌≡◌, ◌≢◌, ℕ, zero, suc, ◌<◌, false, List, [], ◌∷◌, Option, Some, None, Result, Ok, Err, length, map, set, get_or, refl, sym, ap, ◌∙◌, subst, arith}
+use Rattle.std.proofs.Common.{◌≡◌, ◌≢◌, ℕ, zero, suc, ◌<◌, true, false, List, [], ◌∷◌, Option, Some, None, Result, Ok, Err, length, map, set, get_or, refl, sym, ap, ◌∙◌, subst, arith}
 use Rattle.std.specs.Prelude.{OnOk, OnErr}
 use Rattle.std.proofs.lemmas.List.{length-map, map-set, set-get_or, get_or-map}
 use Rattle.page_tree.specs.Places.{up_of, kids_of, shadow_of, depth, max_depth, without}
-use Rattle.page_tree.specs.Rows.{Rows, IsTree, grown, hosting, with_shadow, with_up, with_kids, without_kid, with_content, change_at, is_shadow_kind, max_nodes, shadow_root, origin}
+use Rattle.page_tree.specs.Attributes.{DifferInName}
+use Rattle.page_tree.specs.Rows.{Rows, IsTree, grown, hosting, with_shadow, with_up, with_kids, without_kid, with_content, change_at, is_element, is_shadow_kind, max_nodes, shadow_root, origin}
 use Rattle.page_tree.specs.Inside.{rows_of, seen, ups_of, kids_lists, shadows_of, contents_of}
 use Rattle.page_tree.specs.declared.geometry.Point.{Point}
 use Rattle.page_tree.specs.declared.node.Node.{Node}
@@ -83,13 +84,13 @@ rows-set_content f nodes i j x y place within read up kids shadow content =
     ∙ set-change f i (contents_of nodes) x.content far (ap (λ (n : Node). n.content) read ∙ sym (get_or-map (λ (n : Node). n.content) nodes i x x.content there)) ∙ ap (λ k. change_at k f (contents_of nodes)) place)
 
 -- ---- a node more
-pub first_nodes : (nodes : List Node) (new : Rows) (content : Content) → is_shadow_kind (Some content.kind) ≡ false → nodes ≡ [] → new ≡ grown (rows_of nodes) None content → IsTree new
-first_nodes nodes new content plain empty is = subst IsTree (sym (is ∙ ap (λ ns. grown (rows_of ns) None content) empty)) (one_is_tree content plain)
+pub first_nodes : (nodes : List Node) (new : Rows) (content : Content) → is_shadow_kind (Some content.kind) ≡ false → DifferInName content.attributes → nodes ≡ [] → new ≡ grown (rows_of nodes) None content → IsTree new
+first_nodes nodes new content plain apart empty is = subst IsTree (sym (is ∙ ap (λ ns. grown (rows_of ns) None content) empty)) (one_is_tree content plain apart)
 
-pub grown_nodes : (nodes : List Node) (focus : Option ℕ) (scroll : Point) (new : Rows) (content : Content) → is_shadow_kind (Some content.kind) ≡ false → new ≡ grown (rows_of nodes) None content → IsTree (seen (rows_of nodes) focus scroll) → length nodes ≢ max_nodes → IsTree (seen new focus scroll)
-grown_nodes nodes focus scroll new content plain is tree room =
+pub grown_nodes : (nodes : List Node) (focus : Option ℕ) (scroll : Point) (new : Rows) (content : Content) → is_shadow_kind (Some content.kind) ≡ false → DifferInName content.attributes → new ≡ grown (rows_of nodes) None content → IsTree (seen (rows_of nodes) focus scroll) → length nodes ≢ max_nodes → IsTree (seen new focus scroll)
+grown_nodes nodes focus scroll new content plain apart is tree room =
     subst IsTree (sym (ap (λ r. seen r focus scroll) is))
-    (grown_is_tree (seen (rows_of nodes) focus scroll) content plain tree (let same : length (ups_of nodes) ≡ length nodes = length-map nodes (λ x. x.up) in omega (arith, tree.few)))
+    (grown_is_tree (seen (rows_of nodes) focus scroll) content plain apart tree (let same : length (ups_of nodes) ≡ length nodes = length-map nodes (λ x. x.up) in omega (arith, tree.few)))
 
 -- ---- a shadow root
 pub hosting_rows : (nodes : List Node) (mid new : Rows) (host root : ℕ) → mid ≡ grown (rows_of nodes) (Some host) shadow_root → new ≡ with_shadow mid host (Some root) → root ≡ length nodes → new ≡ hosting (rows_of nodes) host
@@ -98,9 +99,9 @@ hosting_rows nodes mid new host root first second number =
     ∙ ap (λ k. with_shadow (grown (rows_of nodes) (Some host) shadow_root) host (Some k)) (number ∙ sym (length-map nodes (λ x. x.up)))
 
 pub hosting_nodes : (nodes : List Node) (focus : Option ℕ) (scroll : Point) (new now : Rows) (host : ℕ) → seen (rows_of nodes) focus scroll ≡ now → new ≡ hosting (rows_of nodes) host → IsTree (seen (rows_of nodes) focus scroll) → length nodes ≢ max_nodes
-    → host < length now.ups → shadow_of now.shadows host ≡ None → depth (ups_of nodes) host < max_depth → IsTree (seen new focus scroll)
-hosting_nodes nodes focus scroll new now host view is tree room within free shallow =
+    → host < length now.ups → is_element now host ≡ true → shadow_of now.shadows host ≡ None → depth (ups_of nodes) host < max_depth → IsTree (seen new focus scroll)
+hosting_nodes nodes focus scroll new now host view is tree room within element free shallow =
     let same : length (ups_of nodes) ≡ length nodes = length-map nodes (λ x. x.up) in
     let as_now : length (ups_of nodes) ≡ length now.ups = ap (λ r. length r.ups) view in
     subst IsTree (sym (ap (λ r. seen r focus scroll) is))
-    (hosting_is_tree (seen (rows_of nodes) focus scroll) host tree (omega (arith, tree.few)) (omega arith) (ap (λ r. shadow_of r.shadows host) view ∙ free) shallow)
+    (hosting_is_tree (seen (rows_of nodes) focus scroll) host tree (omega (arith, tree.few)) (omega arith) (ap (λ r. is_element r host) view ∙ element) (ap (λ r. shadow_of r.shadows host) view ∙ free) shallow)

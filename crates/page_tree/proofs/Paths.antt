@@ -160,9 +160,9 @@ module _ (ups : List (Option ℕ)) (below kids : List (List ℕ)) (front : ℕ �
         order = (all_imply (IsUnderFrom (path n) (length (front n))) (comes_before (path n)) (map path (flat_map (walk s kids) (kids_of kids n))) (λ p u. rw (u.is) (before_below (path n) u.rest u.place)) lower.under, lower.order);
       })
 
-  -- the document tree is in the order of its paths
-  pub document_in_order : AreInOrder (map path (walk 200 kids 0))
-  document_in_order = (walk_in_order 200 0).order
+  -- a node and what is below it are in the order of their paths
+  pub subtree_in_order : (n : ℕ) → AreInOrder (map path (walk 200 kids n))
+  subtree_in_order n = (walk_in_order 200 n).order
 
   -- ---- a walk meets nodes only
   kid_within : (n : ℕ) (pre : List ℕ) (k : ℕ) (post : List ℕ) → kids_of below n ≡ pre ++ k ∷ post → k < length ups

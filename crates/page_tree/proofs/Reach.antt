@@ -1,4 +1,4 @@
--- The document tree is what the chain of parents ties to the root.
+-- What is below a node is what the chain of parents ties to it.
 use Rattle.std.proofs.Common.{◌≡◌, ℕ, zero, suc, ◌+◌, ◌≤◌, Bool, true, false, cond, List, [], ◌∷◌, ◌++◌, Option, Some, None, length, eqb, eq-eqb, refl, sym, ap, ◌∙◌, subst, arith, inl, inr, ◌⊎◌}
 use Rattle.std.specs.Prelude.{◌||◌}
 use Rattle.std.specs.List.{flat_map}
@@ -98,19 +98,19 @@ module _ (ups : List (Option ℕ)) (kids : List (List ℕ)) (each : (p m : ℕ) 
     | inr below ↦ in_kids (suc s) r below.0 k below.1 (down s below.0 m k below.2 up)
   ]
 
-  reach : (j n : ℕ) → contains 0 (chain j ups n) ≡ true → contains n (walk (suc j) kids 0) ≡ true
-  reach zero n h = elim (or_split (eqb n 0) false (sym (ap (contains 0) (chain-zero ups n)) ∙ h)) [
-    | inl here ↦ subst (λ m. contains m (walk 1 kids 0) ≡ true) (sym (same_number n 0 here)) (in_first 0 0)
+  reach : (r j n : ℕ) → contains r (chain j ups n) ≡ true → contains n (walk (suc j) kids r) ≡ true
+  reach r zero n h = elim (or_split (eqb n r) false (sym (ap (contains r) (chain-zero ups n)) ∙ h)) [
+    | inl here ↦ subst (λ m. contains m (walk 1 kids r) ≡ true) (sym (same_number n r here)) (in_first 0 r)
     | inr never ↦ cc
   ]
-  reach (suc j) n h = elim (or_split (eqb n 0) (contains 0 (onwards (chain j ups) (up_of ups n))) (sym (ap (contains 0) (chain-suc j ups n)) ∙ h)) [
-    | inl here ↦ subst (λ m. contains m (walk (suc (suc j)) kids 0) ≡ true) (sym (same_number n 0 here)) (in_first (suc j) 0)
-    | inr later ↦ further (reach j) (up_of ups n) refl later
+  reach r (suc j) n h = elim (or_split (eqb n r) (contains r (onwards (chain j ups) (up_of ups n))) (sym (ap (contains r) (chain-suc j ups n)) ∙ h)) [
+    | inl here ↦ subst (λ m. contains m (walk (suc (suc j)) kids r) ≡ true) (sym (same_number n r here)) (in_first (suc j) r)
+    | inr later ↦ further (reach r j) (up_of ups n) refl later
   ]
     where
-      further : ((m : ℕ) → contains 0 (chain j ups m) ≡ true → contains m (walk (suc j) kids 0) ≡ true) → (o : Option ℕ) → up_of ups n ≡ o → contains 0 (onwards (chain j ups) o) ≡ true → contains n (walk (suc (suc j)) kids 0) ≡ true
+      further : ((m : ℕ) → contains r (chain j ups m) ≡ true → contains m (walk (suc j) kids r) ≡ true) → (o : Option ℕ) → up_of ups n ≡ o → contains r (onwards (chain j ups) o) ≡ true → contains n (walk (suc (suc j)) kids r) ≡ true
       further inner None up h = absurd (let e : false ≡ true = h in cc)
-      further inner (Some p) up h = down (suc j) 0 p n (inner p h) up
+      further inner (Some p) up h = down (suc j) r p n (inner p h) up
 
   from_here : (j n k r : ℕ) → n ≡ k → up_of ups k ≡ Some r → contains r (onwards (chain j ups) (up_of ups n)) ≡ true
   from_here j n k r same up = ap (λ o. contains r (onwards (chain j ups) o)) (ap (up_of ups) same ∙ up) ∙ contains_first j ups r r refl
@@ -133,9 +133,10 @@ module _ (ups : List (Option ℕ)) (kids : List (List ℕ)) (each : (p m : ℕ) 
   rise zero r n h = elim (parts zero r n h) [ inl here ↦ contains_first 0 ups n r (sym here) | inr below ↦ absurd (let e : false ≡ true = sym (ap (contains n) (walk-none kids below.0)) ∙ below.2 in cc) ]
   rise (suc s) r n h = elim (parts (suc s) r n h) [ inl here ↦ contains_first (suc s) ups n r (sym here) | inr below ↦ longer s n below.0 r (rise s below.0 n below.2) (kid_up r below.0 below.1) ]
 
-  pub connected_nodes : (n : ℕ) → contains n (walk 200 kids 0) ≡ contains 0 (lineage ups n)
-  connected_nodes n =
+  -- a node is at or below those that its chain of parents meets
+  pub subtree_nodes : (r n : ℕ) → contains n (walk 200 kids r) ≡ contains r (lineage ups n)
+  subtree_nodes r n =
       let same : chain 199 ups n ≡ lineage ups n = stable_down 199 ups n (shallow n) in
-      iff_same (contains n (walk 200 kids 0)) (contains 0 (lineage ups n))
-      (λ h. sym (ap (contains 0) same) ∙ rise 199 0 n h)
-      (λ h. reach 199 n (ap (contains 0) same ∙ h))
+      iff_same (contains n (walk 200 kids r)) (contains r (lineage ups n))
+      (λ h. sym (ap (contains r) same) ∙ rise 199 r n h)
+      (λ h. reach r 199 n (ap (contains r) same ∙ h))

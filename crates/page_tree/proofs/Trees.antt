@@ -4,14 +4,16 @@ use Rattle.std.specs.Prelude.{nat_le, IfSome}
 use Rattle.std.proofs.lemmas.List.{length-map, get_or-set_same, get_or-set_other, get_or_past, ext_get_or}
 use Rattle.std.proofs.lemmas.Bool.{cases_eq, cases_lt}
 use Rattle.page_tree.specs.Places.{up_of, kids_of, shadow_of, times, points_to, onwards, chain, depth, max_depth, all_shallow, without, put_among, is_root_of, is_hosted, own_up, below}
-use Rattle.page_tree.specs.Rows.{Rows, IsTree, one_node, grown, detached, moved, count, max_nodes, is_shadow, is_shadow_kind, is_element, is_element_kind, is_text, kind_at, change_at, with_content, with_text}
+use Rattle.page_tree.specs.Attributes.{DifferInName}
+use Rattle.page_tree.specs.Rows.{Rows, IsTree, one_node, grown, detached, moved, count, max_nodes, is_shadow, is_shadow_kind, is_element, is_element_kind, is_text, is_text_kind, kind_at, change_at, with_content, with_text}
 use Rattle.page_tree.specs.Inside.{seen}
 use Rattle.page_tree.specs.declared.geometry.Point.{Point}
 use Rattle.page_tree.specs.declared.content.Content.{Content}
 use Rattle.page_tree.specs.declared.content.Kind.TheVariants.{Text}
 use Rattle.page_tree.proofs.Chains.{chain-suc, chain-zero}
 use Rattle.page_tree.proofs.Counts.{times-without, times-put, without_absent, kids_without}
-use Rattle.page_tree.proofs.NodeKinds.{shadow_kind_pushed, kind_changed, length-change_at, shadow_kind_texted, element_kind_texted, element_pushed, focus_kept}
+use Rattle.page_tree.proofs.NodeKinds.{shadow_kind_pushed, kind_pushed_other, kind_changed, length-change_at, shadow_kind_texted, element_kind_texted, text_kind_texted, element_pushed, focus_kept}
+use Rattle.page_tree.proofs.Names.{NamesDiffer, none_differ, names_pushed, names_changed}
 use Rattle.page_tree.proofs.Ranges.{not_all}
 use Rattle.page_tree.proofs.Shadows.{chain_cut, each_below, other_parent, length-below}
 
@@ -42,8 +44,8 @@ alone_plain content (suc n) plain = refl
 own_alone : (n : ℕ) → own_up (None ∷ []) (None ∷ []) n ≡ None
 own_alone n = rw (up_alone n) refl
 
-pub one_is_tree : (content : Content) → is_shadow_kind (Some content.kind) ≡ false → IsTree (one_node content)
-one_is_tree content plain = record {
+pub one_is_tree : (content : Content) → is_shadow_kind (Some content.kind) ≡ false → DifferInName content.attributes → IsTree (one_node content)
+one_is_tree content plain apart = record {
   some = omega arith;
   few = omega arith;
   kids_of_each = refl;
@@ -55,6 +57,9 @@ one_is_tree content plain = record {
   roots = λ n. alone_plain content n plain ∙ sym (alone_hosted n);
   shallow = λ n. omega (arith, chain_alone 200 n (None ∷ []) (up_alone n));
   focused = tt;
+  leaves = λ n is. kids_alone n;
+  hosts = λ p m is. absurd (no_root m p (shadow_of (None ∷ []) p) (up_alone p) is);
+  names = names_pushed [] content apart (λ n. none_differ);
 }
 
 -- ---- one node more
@@ -88,8 +93,15 @@ hosted_same ups vps ss ts n up shadows = ap (is_root_of ss n) up ∙ root_same (
 pub own_same : (ups vps ss ts : List (Option ℕ)) (n : ℕ) → up_of ups n ≡ up_of vps n → ((p : ℕ) → shadow_of ss p ≡ shadow_of ts p) → own_up ups ss n ≡ own_up vps ts n
 own_same ups vps ss ts n up shadows = ap (λ b. cond b None (up_of ups n)) (hosted_same ups vps ss ts n up shadows) ∙ ap (λ o. cond (is_hosted vps ts n) None o) up
 
-pub grown_is_tree : (rows : Rows) (content : Content) → is_shadow_kind (Some content.kind) ≡ false → IsTree rows → count rows < max_nodes → IsTree (grown rows None content)
-grown_is_tree rows content plain tree room = record {
+-- once a node is pushed, texts still have no children
+pub leaves_pushed : (rows : Rows) (content : Content) → IsTree rows → (n : ℕ) → is_text_kind (kind_at (rows.contents ++ content ∷ []) n) ≡ true → kids_of (rows.kids ++ [] ∷ []) n ≡ []
+leaves_pushed rows content tree n is = kids_grown rows.kids n ∙ elim (cases_eq n (count rows)) [
+  | inl same ↦ get_or_past rows.kids n [] (omega (arith, tree.kids_of_each))
+  | inr apart ↦ tree.leaves n (ap is_text_kind (sym (kind_pushed_other rows.contents content n (λ e. apart (e ∙ tree.content_of_each)))) ∙ is)
+]
+
+pub grown_is_tree : (rows : Rows) (content : Content) → is_shadow_kind (Some content.kind) ≡ false → DifferInName content.attributes → IsTree rows → count rows < max_nodes → IsTree (grown rows None content)
+grown_is_tree rows content plain apart tree room = record {
   some = omega (arith, length-append rows.ups (None ∷ []));
   few = omega (arith, length-append rows.ups (None ∷ []));
   kids_of_each = omega (arith, length-append rows.ups (None ∷ []), length-append rows.kids ([] ∷ []), tree.kids_of_each);
@@ -101,6 +113,9 @@ grown_is_tree rows content plain tree room = record {
   roots = λ n. shadow_kind_pushed rows.contents content n plain ∙ tree.roots n ∙ sym (hosted_same (rows.ups ++ None ∷ []) rows.ups (rows.shadows ++ None ∷ []) rows.shadows n (up_grown rows.ups n) (up_grown rows.shadows));
   shallow = λ n. rw (chain_same 200 (rows.ups ++ None ∷ []) rows.ups (up_grown rows.ups) n) (tree.shallow n);
   focused = focus_kept rows.focus rows.contents (rows.contents ++ content ∷ []) (element_pushed rows.contents content) tree.focused;
+  leaves = leaves_pushed rows content tree;
+  hosts = λ p m is. element_pushed rows.contents content p (tree.hosts p m (sym (up_grown rows.shadows p) ∙ is));
+  names = names_pushed rows.contents content apart tree.names;
 }
 
 -- ---- a node taken out
@@ -152,6 +167,10 @@ module _ (rows : Rows) (m : ℕ) (o : Option ℕ) (vps : List (Option ℕ)) (tre
     | inr apart ↦ others n apart ∙ tree.host p n is
   ]
 
+-- where m is taken out of all children, texts still have none
+leaves_without : (rows : Rows) (m : ℕ) → IsTree rows → (n : ℕ) → is_text rows n ≡ true → kids_of (map (without m) rows.kids) n ≡ []
+leaves_without rows m tree n is = kids_without m rows.kids n ∙ ap (without m) (tree.leaves n is)
+
 pub detached_is_tree : (rows : Rows) (m : ℕ) → IsTree rows → 0 < m → is_shadow rows m ≡ false → IsTree (detached rows m)
 detached_is_tree rows m tree not_top plain =
     let vps = set rows.ups m None in
@@ -172,6 +191,9 @@ detached_is_tree rows m tree not_top plain =
       roots = roots_changed rows m None vps tree plain here others;
       shallow = λ n. omega (arith, chain_cut 200 rows.ups vps (up_gone_cut rows.ups m) n, tree.shallow n);
       focused = tree.focused;
+      leaves = leaves_without rows m tree;
+      hosts = tree.hosts;
+      names = tree.names;
     }
 
 -- ---- a node put elsewhere
@@ -204,8 +226,14 @@ each_moved rows m p place q x tree m_in p_in o now before =
           (elim (cases_eq x m) [ inl same ↦ rw (now same) (grind (arith, same, away)) | inr apart ↦ rw (before apart) (grind (arith, apart, tree.each q x)) ])
     ]
 
-pub moved_is_tree : (rows : Rows) (m p place : ℕ) → IsTree rows → 0 < m → is_shadow rows m ≡ false → m < count rows → p < count rows → all_shallow (moved rows m p place).ups ≡ true → IsTree (moved rows m p place)
-moved_is_tree rows m p place tree not_top plain m_in p_in shallow =
+leaves_moved : (rows : Rows) (m p place : ℕ) → IsTree rows → is_text rows p ≡ false → (n : ℕ) → is_text rows n ≡ true → kids_of (moved rows m p place).kids n ≡ []
+leaves_moved rows m p place tree no_text n is =
+    let others = map (without m) rows.kids in
+    let away : n ≢ p = λ same. true≢false (sym is ∙ ap (is_text rows) same ∙ no_text) in
+    get_or-set_other others p n (put_among place m (kids_of others p)) [] away ∙ leaves_without rows m tree n is
+
+pub moved_is_tree : (rows : Rows) (m p place : ℕ) → IsTree rows → 0 < m → is_shadow rows m ≡ false → is_text rows p ≡ false → m < count rows → p < count rows → all_shallow (moved rows m p place).ups ≡ true → IsTree (moved rows m p place)
+moved_is_tree rows m p place tree not_top plain no_text m_in p_in shallow =
     let vps = set (set rows.ups m None) m (Some p) in
     let here : up_of vps m ≡ Some p = up_moved rows.ups m p m_in in
     let others : (n : ℕ) → n ≢ m → up_of vps n ≡ up_of rows.ups n = λ n apart. up_not_moved rows.ups m p n apart in
@@ -223,13 +251,18 @@ moved_is_tree rows m p place tree not_top plain m_in p_in shallow =
       roots = roots_changed rows m (Some p) vps tree plain here others;
       shallow = shallow_at (moved rows m p place).ups shallow;
       focused = tree.focused;
+      leaves = leaves_moved rows m p place tree no_text;
+      hosts = tree.hosts;
+      names = tree.names;
     }
 
 -- ---- what nodes are, changed
 relabelled_is_tree : (rows : Rows) (contents : List Content) → IsTree rows → length contents ≡ length rows.contents
     → ((n : ℕ) → is_shadow_kind (kind_at contents n) ≡ is_shadow rows n)
-    → ((n : ℕ) → is_element_kind (kind_at contents n) ≡ is_element rows n) → IsTree (record rows { contents = contents })
-relabelled_is_tree rows contents tree same shadows elements = record {
+    → ((n : ℕ) → is_element_kind (kind_at contents n) ≡ is_element rows n)
+    → ((n : ℕ) → is_text_kind (kind_at contents n) ≡ is_text rows n)
+    → ((n : ℕ) → NamesDiffer contents n) → IsTree (record rows { contents = contents })
+relabelled_is_tree rows contents tree same shadows elements texts names = record {
   some = tree.some;
   few = tree.few;
   kids_of_each = tree.kids_of_each;
@@ -241,17 +274,23 @@ relabelled_is_tree rows contents tree same shadows elements = record {
   roots = λ k. shadows k ∙ tree.roots k;
   shallow = tree.shallow;
   focused = focus_kept rows.focus rows.contents contents (λ n h. elements n ∙ h) tree.focused;
+  leaves = λ n is. tree.leaves n (sym (texts n) ∙ is);
+  hosts = λ p m is. elements p ∙ tree.hosts p m is;
+  names = names;
 }
 
-pub changed_is_tree : (rows : Rows) (n : ℕ) (f : Content → Content) → ((content : Content) → (f content).kind ≡ content.kind) → IsTree rows → IsTree (with_content rows n f)
-changed_is_tree rows n f keeps tree =
+pub changed_is_tree : (rows : Rows) (n : ℕ) (f : Content → Content) → ((content : Content) → (f content).kind ≡ content.kind) → ((content : Content) → DifferInName content.attributes → DifferInName (f content).attributes)
+    → IsTree rows → IsTree (with_content rows n f)
+changed_is_tree rows n f keeps names tree =
     relabelled_is_tree rows (change_at n f rows.contents) tree (length-change_at f n rows.contents)
     (λ k. ap is_shadow_kind (kind_changed f keeps n rows.contents k)) (λ k. ap is_element_kind (kind_changed f keeps n rows.contents k))
+    (λ k. ap is_text_kind (kind_changed f keeps n rows.contents k)) (names_changed f names n rows.contents tree.names)
 
 pub with_text_is_tree : (rows : Rows) (n : ℕ) (text : List ℕ) → is_text rows n ≡ true → IsTree rows → IsTree (with_text rows n text)
 with_text_is_tree rows n text is tree =
     relabelled_is_tree rows (with_text rows n text).contents tree (length-change_at (λ content. record content { kind = Text text }) n rows.contents)
-    (shadow_kind_texted text n rows.contents is) (element_kind_texted text n rows.contents is)
+    (shadow_kind_texted text n rows.contents is) (element_kind_texted text n rows.contents is) (text_kind_texted text n rows.contents is)
+    (names_changed (λ content. record content { kind = Text text }) (λ content apart. apart) n rows.contents tree.names)
 
 -- ---- the focus, and how far the page is scrolled
 pub seen_is_tree : (rows : Rows) (focus : Option ℕ) (scroll : Point) → IfSome focus (λ n. is_element rows n ≡ true) → IsTree rows → IsTree (seen rows focus scroll)
@@ -267,6 +306,9 @@ seen_is_tree rows focus scroll element tree = record {
   roots = tree.roots;
   shallow = tree.shallow;
   focused = element;
+  leaves = tree.leaves;
+  hosts = tree.hosts;
+  names = tree.names;
 }
 
 -- ---- what taking a node out changes

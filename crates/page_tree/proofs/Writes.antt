@@ -1,6 +1,7 @@
 -- A document once f is applied to what one of its nodes is.
 use Rattle.std.proofs.Common.{◌≡◌, ℕ, ◌<◌, true, List, length, set, get_or, refl, sym, ap, ◌∙◌, subst, arith}
 use Rattle.std.proofs.lemmas.List.{length-map}
+use Rattle.page_tree.specs.Attributes.{DifferInName}
 use Rattle.page_tree.specs.Rows.{Rows, IsTree, with_content, with_text, is_text, count}
 use Rattle.page_tree.specs.DocumentState.{DocumentState}
 use Rattle.page_tree.specs.Inside.{rows_of, seen}
@@ -33,9 +34,9 @@ module _ (f : Content → Content) (before : Inside) (now : DocumentState) (view
       let here : rows_of (set nodes i node) ≡ with_content (rows_of nodes) j f = rows-set_content f nodes i j x node place there read refl refl refl refl in
       ap (λ (r : Rows). with_rows (state before) (seen r before.focus before.scroll)) here ∙ ap (λ (s : DocumentState). with_rows s (with_content s.rows j f)) view
 
-  pub written_is_tree : ((content : Content) → (f content).kind ≡ content.kind) → IsTree (rows_inside before) → IsTree (rows_written f before i x)
-  written_is_tree keeps tree =
-      subst (λ (s : DocumentState). IsTree s.rows) (sym content_written) (changed_is_tree now.rows j f keeps (subst (λ (s : DocumentState). IsTree s.rows) view tree))
+  pub written_is_tree : ((content : Content) → (f content).kind ≡ content.kind) → ((content : Content) → (f content).attributes ≡ content.attributes) → IsTree (rows_inside before) → IsTree (rows_written f before i x)
+  written_is_tree keeps names tree =
+      subst (λ (s : DocumentState). IsTree s.rows) (sym content_written) (changed_is_tree now.rows j f keeps (λ content. subst DifferInName (sym (names content))) (subst (λ (s : DocumentState). IsTree s.rows) view tree))
 
   -- the same where f gives a text its characters
   pub texted_is_tree : (text : List ℕ) → (with_content now.rows j f ≡ with_text now.rows j text) → is_text now.rows j ≡ true → IsTree (rows_inside before) → IsTree (rows_written f before i x)

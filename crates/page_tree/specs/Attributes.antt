@@ -1,13 +1,18 @@
 -- The attributes of an element: names and values as characters, in the order in which they were first set.
 use Rattle.std.specs.Prelude.{ℕ, Bool, List, [], ◌∷◌, Option, Some, None, not, filter, if◌then◌else◌}
+use Rattle.std.specs.List.{IsDistinct}
 use Rattle.std.specs.Str.{bytes_eq}
-use Rattle.std.specs.Map.{lookup}
+use Rattle.std.specs.Map.{keys_of, lookup}
 
 abbrev pub Attributes : Type 0
 Attributes = List (List ℕ × List ℕ)
 
 abbrev pub has_name : List ℕ → List ℕ × List ℕ → Bool
 has_name name attribute = bytes_eq attribute.0 name
+
+-- no two attributes have one name
+abbrev pub DifferInName : Attributes → Type 0
+DifferInName attributes = IsDistinct bytes_eq (keys_of attributes)
 
 -- the value of the attribute with that name, if there is one
 abbrev pub value_of : List ℕ → Attributes → Option (List ℕ)

@@ -1,7 +1,7 @@
 -- The rows of a document. A node's number is its place in each list, so each number below the count has one row.
 use Rattle.std.specs.Prelude.{◌≡◌, ℕ, ℤ, pos, zero, suc, ◌≤◌, ◌<◌, Bool, true, false, List, [], ◌∷◌, ◌++◌, Option, Some, None, IfSome, length, map, slice_get, slice_set, if◌then◌else◌}
 use Rattle.std.specs.Option.{option_map}
-use Rattle.page_tree.specs.Attributes.{Attributes, value_of, changed_to}
+use Rattle.page_tree.specs.Attributes.{Attributes, DifferInName, value_of, changed_to}
 use Rattle.page_tree.specs.Places.{up_of, kids_of, shadow_of, times, points_to, lineage, depth, max_depth, without, put_among, contains, walk, path_of, is_hosted, own_up, own_ups, below}
 use Rattle.page_tree.specs.declared.content.Content.{Content}
 use Rattle.page_tree.specs.declared.content.Kind.{Kind}
@@ -154,6 +154,12 @@ pub record IsTree (rows : Rows) : Type 0 where
   pub shallow : (n : ℕ) → depth rows.ups n ≤ max_depth
   -- what has the focus is an element
   pub focused : IfSome rows.focus (λ n. is_element rows n ≡ true)
+  -- a text has no children
+  pub leaves : (n : ℕ) → is_text rows n ≡ true → kids_of rows.kids n ≡ []
+  -- what has a shadow root is an element
+  pub hosts : (p m : ℕ) → shadow_of rows.shadows p ≡ Some m → is_element rows p ≡ true
+  -- the attribute names of one node differ from each other
+  pub names : (n : ℕ) → DifferInName (attributes_at rows n)
 
 -- ---- where nodes stand
 

@@ -86,8 +86,9 @@ impl Document {
     }
 
     /// What holds of the rows of every document: parents and children agree, a shadow root's
-    /// parent is its host, no node stands deeper than 200, and what has the focus is an element. It
-    /// does nothing.
+    /// parent is its host, which is an element, a text has no children, the attribute names of one
+    /// node differ from each other, no node stands deeper than 200, and what has the focus is an
+    /// element. It does nothing.
     pub fn law(&self)
         requires { self.now.spent ≡ false }
         ensures { IsTree self.now.rows }

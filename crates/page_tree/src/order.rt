@@ -20,8 +20,9 @@ pub fn walk(
         return Ok(());
     }
     found.push(node)?;
-    for kid in kids(nodes, node) {
-        walk(nodes, *kid, steps - 1, found)?;
+    let children = kids(nodes, node);
+    for place in 0..children.len() {
+        walk(nodes, children[place], steps - 1, found)?;
     }
     Ok(())
 }

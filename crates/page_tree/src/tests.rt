@@ -169,6 +169,52 @@ fn depth_counts_what_is_below(rt: HostRuntime) -> Result<(), Fail> {
     Ok(())
 }
 
+#[test]
+fn texts_are_leaves_and_names_differ(rt: HostRuntime) -> Result<(), Fail> {
+    let mut page = nine_nodes(&rt, rt.alloc())?;
+    moved(&rt, &mut page, 1, 0, 0)?;
+    moved(&rt, &mut page, 6, 1, 0)?;
+    let host = element(&rt, &page, 1);
+    assert!(rt; page.shadow_of(host).is_none());
+    page.add_shadow(host)?;
+    moved(&rt, &mut page, 7, 9, 0)?;
+    let changes = [
+        ("id", Some("a")),
+        ("class", Some("b")),
+        ("id", Some("c")),
+        ("ID", Some("d")),
+        ("class", None),
+        ("lang", Some("")),
+        ("class", Some("e")),
+    ];
+    for (name, value) in changes {
+        let host = element(&rt, &page, 1);
+        page.set_attr(host, name, value)?;
+    }
+    let host = element(&rt, &page, 1);
+    let attributes = page.attributes(host);
+    let expected = [("id", "c"), ("ID", "d"), ("lang", ""), ("class", "e")];
+    assert_eq!(rt; attributes.len(), expected.len());
+    for (attribute, (name, value)) in attributes.iter().zip(&expected) {
+        assert_eq!(rt; attribute.0.as_str(), *name);
+        assert_eq!(rt; attribute.1.as_str(), *value);
+    }
+    for number in 0..10 {
+        let node = NodeId::of(number);
+        assert!(rt; number < page.count());
+        assert_eq!(rt; page.text(node).is_some(), number == 6 || number == 7);
+        assert_eq!(rt; page.shadow_of(node).is_some(), number == 1);
+        let expected: &[u32] = match number {
+            0 => &[1],
+            1 => &[6],
+            9 => &[7],
+            _ => &[],
+        };
+        same(&rt, &page.children(node)?, expected);
+    }
+    Ok(())
+}
+
 /// Sees that this node is an element of a document that isn't spent.
 fn element(rt: &impl Abort, page: &Document, node: u32) -> NodeId
     ensures alive { page.now.spent ≡ false }

@@ -15,6 +15,6 @@ pub returns : goal.returns
 returns t c =
     let before = c.args.found.now.items in
     let kids = kids_lists c.args.nodes.now in
-    let all : take c.loop-kid.kid-index c.kids-kid-items.result.now ≡ kids_of kids c.args.node = take_all c.loop-kid.kid-index c.kids-kid-items.result.now (omega arith) ∙ c.kids-kid-items.ensures in
-    c.loop-kid.invariant ∙ ap (λ xs. before ++ c.args.node ∷ flat_map (walk (c.args.steps - 1) kids) xs) all
+    let all : take c.loop-place.place c.kids-children.result.now ≡ kids_of kids c.args.node = take_all c.loop-place.place c.kids-children.result.now (omega arith) ∙ c.kids-children.ensures in
+    c.loop-place.invariant ∙ ap (λ xs. before ++ c.args.node ∷ flat_map (walk (c.args.steps - 1) kids) xs) all
     ∙ ap (λ xs. before ++ xs) (sym (walk-suc c.args.steps kids c.args.node (omega arith)))

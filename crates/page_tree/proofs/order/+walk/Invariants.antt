@@ -7,5 +7,5 @@ use Rattle.page_tree.proofs.order.+walk.Given as goal
 abbrev pub decreases-walk : goal.decreases-walk
 decreases-walk l = l.steps
 
-abbrev pub invariant-loop-kid : goal.invariant-loop-kid
-invariant-loop-kid l = l.found.items ≡ l.fn.found.items ++ l.fn.node ∷ flat_map (walk (l.steps - 1) (kids_lists l.nodes)) (take l.kid-index l.kid-items)
+abbrev pub invariant-loop-place : goal.invariant-loop-place
+invariant-loop-place l = l.found.items ≡ l.fn.found.items ++ l.fn.node ∷ flat_map (walk (l.steps - 1) (kids_lists l.nodes)) (take l.place l.children)

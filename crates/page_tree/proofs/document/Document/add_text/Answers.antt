@@ -2,6 +2,7 @@ use Rattle.std.proofs.Common.{◌≡◌, None, refl, rules, arith}
 use Rattle.std.specs.Str.{chars}
 use Rattle.page_tree.specs.Rows.{grown, text_node}
 use Rattle.page_tree.specs.Inside.{rows_of}
+use Rattle.page_tree.proofs.Names.{none_differ}
 use Rattle.page_tree.proofs.Nodes.{grown_nodes}
 use Rattle.page_tree.proofs.document.Document.add_text.Goals as goal
 
@@ -10,4 +11,4 @@ invariant_of-self-else-is_err c =
     let nodes = c.self.inside.nodes.items in
     let content = text_node (chars c.args.text.now) in
     let pushed : rows_of c.push_text.new.nodes.items ≡ grown (rows_of nodes) None content = search rules in
-    grown_nodes nodes c.self.inside.focus c.self.inside.scroll (rows_of c.push_text.new.nodes.items) content refl pushed c.self.invariant (λ full. c.if-number-eq-MAX_NODES.false (omega arith))
+    grown_nodes nodes c.self.inside.focus c.self.inside.scroll (rows_of c.push_text.new.nodes.items) content refl none_differ pushed c.self.invariant (λ full. c.if-number-eq-MAX_NODES.false (omega arith))

@@ -35,5 +35,5 @@ invariant_of-self-else-is_err c =
     let mid = rows_of c.detach.new.nodes.items in
     let second : rows_of c.attach.new.nodes.items ≡ attached mid c.args.node c.args.parent c.args.place = search rules in
     moved_nodes (rows_of c.self.inside.nodes.items) mid (rows_of c.attach.new.nodes.items) c.args.self.now.rows c.self.inside.focus c.self.inside.scroll c.args.node c.args.parent c.args.place
-    (ap (λ s. s.rows) c.self.view_is) c.detach.ensures second c.self.invariant c.requires.not_root c.requires.not_shadow c.requires.node_in c.requires.parent_in
+    (ap (λ s. s.rows) c.self.view_is) c.detach.ensures second c.self.invariant c.requires.not_root c.requires.not_shadow c.requires.not_in_text c.requires.node_in c.requires.parent_in
     (sym c.if-not-all_shallow_after.false ∙ c.all_shallow_after.ensures ∙ ap (λ ns. all_shallow (set (ups_of ns) c.args.node (Some c.args.parent))) c.deref-2.ensures.value)
