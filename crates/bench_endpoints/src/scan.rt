@@ -6,10 +6,8 @@ pub fn scan(method: &str, target: &str) -> Option<Command> {
         Some((path, _)) => path,
         None => target,
     };
-    COMMANDS
-        .iter()
-        .copied()
-        .find(|c| method_of(*c) == method && fits(pattern_of(*c), path))
+    COMMANDS.iter().copied().find(|c| method_of(*c).as_str() == method
+        && fits(pattern_of(*c), path))
 }
 
 fn fits(pattern: &str, path: &str) -> bool {

@@ -104,10 +104,7 @@ fn path_of_target(target: &str) -> &str
 fn with_method(path: &str, method: &str) -> Option<Command>
     ensures { result ≡ with_row path.now method.now }
 {
-    COMMANDS
-        .iter()
-        .copied()
-        .find(|c| pattern_of(*c) == path && method_of(*c) == method)
+    COMMANDS.iter().copied().find(|c| pattern_of(*c) == path && method_of(*c).as_str() == method)
 }
 
 /// A law, to be cited: a request has one route at most, and where it has one it is not refused;

@@ -3,6 +3,7 @@ ghost use Rattle.endpoints.specs.declared.command.Command.{Command as AnyCommand
 ghost use Rattle.endpoints.specs.Table.{row_of};
 
 use crate::command::Command;
+use http::Method;
 
 /// Every command, in the order of the table.
 pub const COMMANDS: [Command; 58] = [
@@ -119,44 +120,44 @@ pub const PATHS: [Command; 48] = [
 ];
 
 // A row of the table.
-#[derive(Clone, Copy)]
+#[derive(Drop)]
 struct Row {
     name: &'static str,
-    method: &'static str,
+    method: Method,
     path: &'static str,
 }
 
 fn get(name: &'static str, path: &'static str) -> Row
     ensures name { result.name.now ≡ name.now }
-    ensures method { result.method.now ≡ codes "GET" }
+    ensures method { result.method ≡ codes "GET" }
     ensures path { result.path.now ≡ path.now }
 {
-    let method = "GET";
+    let method = Method::GET;
     Row { name, method, path }
 }
 
 fn post(name: &'static str, path: &'static str) -> Row
     ensures name { result.name.now ≡ name.now }
-    ensures method { result.method.now ≡ codes "POST" }
+    ensures method { result.method ≡ codes "POST" }
     ensures path { result.path.now ≡ path.now }
 {
-    let method = "POST";
+    let method = Method::POST;
     Row { name, method, path }
 }
 
 fn delete(name: &'static str, path: &'static str) -> Row
     ensures name { result.name.now ≡ name.now }
-    ensures method { result.method.now ≡ codes "DELETE" }
+    ensures method { result.method ≡ codes "DELETE" }
     ensures path { result.path.now ≡ path.now }
 {
-    let method = "DELETE";
+    let method = Method::DELETE;
     Row { name, method, path }
 }
 
 // The table.
 fn row_for(command: Command) -> Row
     ensures name { result.name.now ≡ (row_of command).name }
-    ensures method { result.method.now ≡ (row_of command).method }
+    ensures method { result.method ≡ (row_of command).method }
     ensures path { result.path.now ≡ (row_of command).path }
 {
     match command {
@@ -272,9 +273,9 @@ fn row_for(command: Command) -> Row
     }
 }
 
-/// The method of a request for this command: `GET`, `POST` or `DELETE`.
-pub fn method_of(command: Command) -> &'static str
-    ensures { result.now ≡ (row_of command).method }
+/// The method of a request for this command: `GET`, `POST` or `DELETE`. It takes no memory.
+pub fn method_of(command: Command) -> Method
+    ensures { result ≡ (row_of command).method }
 {
     row_for(command).method
 }

@@ -6,7 +6,14 @@ use std::test::Fail;
 use wd_errors::Code;
 use wd_json::{Memory, WdText};
 
-const METHODS: [&str; 5] = ["GET", "POST", "DELETE", "get", "HEAD"];
+const METHODS: [&str; 6] = [
+    "GET",
+    "POST",
+    "DELETE",
+    "get",
+    "HEAD",
+    "AN-EXTENSION-METHOD",
+];
 
 const UNKNOWN_COMMAND: RouteFault = RouteFault::Refused(Code::UnknownCommand);
 
@@ -61,9 +68,7 @@ fn answer(endpoints: &Endpoints, method: &str, target: &str) -> Result<Command, 
 
 // Whether a row of the table has this path and this method.
 fn has_row(pattern: &str, method: &str) -> bool {
-    COMMANDS
-        .iter()
-        .any(|c| pattern_of(*c) == pattern && method_of(*c) == method)
+    COMMANDS.iter().any(|c| pattern_of(*c) == pattern && method_of(*c).as_str() == method)
 }
 
 // Every other method of the path is unknown.
@@ -84,7 +89,7 @@ fn expect_back(
 ) -> Result<(), RouteFault> {
     let route = route_to(alloc, command)?;
     let path = path_to(rt, alloc, &route)?;
-    let back = endpoints.resolve(method_of(command), path.as_str())?;
+    let back = endpoints.resolve(method_of(command).as_str(), path.as_str())?;
     assert!(rt; same_route(&route, &back));
     expect_methods(rt, endpoints, pattern_of(command), path.as_str());
     Ok(())

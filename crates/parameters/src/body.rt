@@ -6,6 +6,7 @@ ghost use Rattle.parameters.specs.Body.{is_post as posts, IsObjectOf, IsObjectFo
 
 use crate::fault::ParamFault;
 use endpoints::{Command, method_of};
+use http::Method;
 use std::alloc::Global;
 use wd_errors::Code;
 use wd_json::{Json, JsonFault, JsonMap, WdBytes, read};
@@ -13,7 +14,7 @@ use wd_json::{Json, JsonFault, JsonMap, WdBytes, read};
 fn is_post(command: Command) -> bool
     ensures { result ≡ posts command }
 {
-    method_of(command) == "POST"
+    method_of(command) == Method::POST
 }
 
 // The object that the bytes are the text of.

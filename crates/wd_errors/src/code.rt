@@ -1,3 +1,6 @@
+ghost use Rattle.std.specs.Prelude.{Some};
+ghost use Rattle.wd_errors.specs.Codes.{row_of};
+
 use crate::table::code_text;
 use std::fmt;
 
@@ -65,6 +68,8 @@ pub enum Code {
 
 /// A code is printed as its text.
 impl fmt::Display for Code {
+    ghost output = { λ code. Some (row_of code).text };
+
     fn fmt<W: fmt::Write>(&self, f: &mut fmt::Formatter<W>) -> fmt::Result {
         f.write_str(code_text(*self))
     }

@@ -1,5 +1,5 @@
-//! The error codes of a reply: 28 kinds, each with one text and one HTTP status. It stands on
-//! nothing but the standard library, and no call takes memory.
+//! The error codes of a reply: 28 kinds, each with one text and one HTTP status, which is a status
+//! of the crate `http`. No call takes memory.
 #![tactic(auto)]
 
 mod code;

@@ -3,6 +3,7 @@ ghost use Rattle.wd_errors.specs.Codes.{row_of};
 ghost use Rattle.wd_errors.specs.declared.code.Code.{Code as AnyCode};
 
 use crate::code::Code;
+use http::StatusCode;
 
 // Every code.
 const ALL: [Code; 28] = [
@@ -36,8 +37,8 @@ const ALL: [Code; 28] = [
     Code::UnsupportedOperation,
 ];
 
-/// The HTTP status of a reply with this code: 400, 404, 405 or 500.
-pub fn status(code: Code) -> u16
+// The status of a reply with this code.
+fn status_code(code: Code) -> StatusCode
     ensures { result ≡ (row_of code).status }
 {
     match code {
@@ -47,7 +48,7 @@ pub fn status(code: Code) -> u16
         | Code::InvalidArgument
         | Code::InvalidCookieDomain
         | Code::InvalidElementState
-        | Code::InvalidSelector => 400,
+        | Code::InvalidSelector => StatusCode::BAD_REQUEST,
         Code::InvalidSessionId
         | Code::NoSuchAlert
         | Code::NoSuchCookie
@@ -57,8 +58,8 @@ pub fn status(code: Code) -> u16
         | Code::NoSuchShadowRoot
         | Code::StaleElementReference
         | Code::DetachedShadowRoot
-        | Code::UnknownCommand => 404,
-        Code::UnknownMethod => 405,
+        | Code::UnknownCommand => StatusCode::NOT_FOUND,
+        Code::UnknownMethod => StatusCode::METHOD_NOT_ALLOWED,
         Code::JavascriptError
         | Code::MoveTargetOutOfBounds
         | Code::ScriptTimeout
@@ -68,8 +69,15 @@ pub fn status(code: Code) -> u16
         | Code::UnableToCaptureScreen
         | Code::UnexpectedAlertOpen
         | Code::UnknownError
-        | Code::UnsupportedOperation => 500,
+        | Code::UnsupportedOperation => StatusCode::INTERNAL_SERVER_ERROR,
     }
+}
+
+/// The HTTP status of a reply with this code: 400, 404, 405 or 500.
+pub fn status(code: Code) -> u16
+    ensures { result ≡ (row_of code).status }
+{
+    status_code(code).as_u16()
 }
 
 /// What a reply calls the code, in its member `error`: lower case words.
