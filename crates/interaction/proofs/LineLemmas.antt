@@ -83,9 +83,6 @@ words_shown c line is = by (is_blank c) is
 abbrev fronted : List ℕ → List Mark → List ℕ
 fronted line marks = led 10 (filter has_some (line ∷ map squeezed (map (flat_map only) (after_each is_none marks))))
 
-fronted_shown : (c : ℕ) (line : List ℕ) (marks : List Mark) → fronted (c ∷ line) marks ≡ 10 ∷ c ∷ (line ++ later_lines marks)
-fronted_shown c line marks = refl
-
 -- ---- the three gaps
 
 record Matches (marks : List Mark) : Type 0 where

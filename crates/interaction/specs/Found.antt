@@ -1,15 +1,15 @@
 -- What a find gives.
-use Rattle.std.specs.Prelude.{◌≡◌, ℕ, Bool, false, ◌&&◌, ◌||◌, List, Option, Some, None, codes, filter}
+use Rattle.std.specs.Prelude.{◌≡◌, ℕ, Bool, true, false, ◌&&◌, ◌||◌, List, Option, Some, None, codes, filter}
 use Rattle.std.specs.Str.{bytes_eq, encode_utf8_all}
 use Rattle.page_tree.specs.Rows.{Rows, tag_of, is_element}
 use Rattle.selectors.specs.Grammar.{GrammarIs, IsCause}
-use Rattle.selectors.specs.Named.{in_scope, selected}
+use Rattle.selectors.specs.Named.{in_scope, selected, is_named as is_named_by}
 use Rattle.selectors.specs.Passes.{holds}
 use Rattle.selectors.specs.Texts.{fits_tag}
 use Rattle.selectors.specs.declared.selector.Complex.{Complex}
 use Rattle.selectors.specs.declared.selector.Scope.{Scope}
-use Rattle.selectors.specs.declared.fault.SelectorFault.{SelectorFault}
-use Rattle.selectors.specs.declared.fault.SelectorFault.TheVariants.{Memory}
+use Rattle.selectors.specs.declared.fault.SelFault.{SelFault}
+use Rattle.selectors.specs.declared.fault.SelFault.TheVariants.{Memory}
 use Rattle.interaction.specs.RenderedText.{is_word, rendered_text}
 use Rattle.interaction.specs.declared.by.By.{By}
 use Rattle.interaction.specs.declared.by.By.TheVariants.{Css, Link, PartialLink, Tag}
@@ -48,8 +48,15 @@ Finds rows scope Link text nodes = nodes ≡ named rows scope words.Link text
 Finds rows scope PartialLink text nodes = nodes ≡ named rows scope words.PartialLink text
 Finds rows scope Tag text nodes = nodes ≡ named rows scope words.Tag text
 
+-- a node that is found by that text, wherever it stands
+unfoldable pub IsFound : Rows → By → List ℕ → ℕ → Type 0
+IsFound rows Css text n = (selector : List Complex) × GrammarIs text selector × (is_named_by rows selector n ≡ true)
+IsFound rows Link text n = is_link rows text n ≡ true
+IsFound rows PartialLink text n = is_partial_link rows text n ≡ true
+IsFound rows Tag text n = is_tagged rows text n ≡ true
+
 -- only a text that is to be a selector may be none
-unfoldable pub Refuses : By → List ℕ → SelectorFault → Type 0
+unfoldable pub Refuses : By → List ℕ → SelFault → Type 0
 Refuses Css text fault = IsCause text fault
 Refuses Link text fault = fault ≡ Memory
 Refuses PartialLink text fault = fault ≡ Memory

@@ -1,36 +1,41 @@
-ghost use Rattle.std.specs.Prelude.{◌≡◌, ◌<◌, false, Some, IfOk, IfErr};
+ghost use Rattle.std.specs.Prelude.{◌≡◌, ℕ, ◌<◌, ◌↔◌, false, Some, IfOk, IfErr, IsTrue};
 ghost use Rattle.std.specs.List.{All};
 ghost use Rattle.std.specs.Str.{chars, bytes_eq, encode_utf8_all};
-ghost use Rattle.page_tree.specs.Rows.{count, tag_of};
+ghost use Rattle.page_tree.specs.Places.{contains, AreInOrder};
+ghost use Rattle.page_tree.specs.Rows.{count, tag_of, paths_of};
 ghost use Rattle.selectors.specs.Passes.{holds as stands_in};
-ghost use Rattle.selectors.specs.Scopes.{IsWithin};
+ghost use Rattle.selectors.specs.Scopes.{IsWithin, is_in};
 ghost use Rattle.selectors.specs.Texts.{fits_tag as fits};
-ghost use Rattle.interaction.specs.Found.{is_a, is_link, is_partial_link, is_tagged, is_named, named, Finds, Refuses};
+ghost use Rattle.interaction.specs.Found.{is_a, is_link, is_partial_link, is_tagged, is_named, named, Finds, IsFound, Refuses};
 
 use crate::blocks::is_word;
 use crate::by::{By, Words};
 use crate::rendered::rendered_text;
 use page_tree::Document;
-use selectors::{Scope, SelectorFault, in_scope, parse, select};
+use selectors::{Scope, SelFault, in_scope, parse, select};
 use std::alloc::Global;
 use wd_json::{Memory, NodeId, NodeList, WdText};
 
 /// The elements of the scope that are found by the value, in document order (W3C WebDriver, section
-/// 12.2, "Find"). `Invalid` exactly where they are looked for by a selector and the grammar has none
-/// for the value; `Memory` where there is none for a list or a text. It goes over the nodes of the
-/// scope once, and for links over what is below each `a`: links inside one another are gone over
-/// once for each link around them.
-#[tactic(auto, unfolding(crate::specs::Found::Finds, crate::specs::Found::Refuses))]
+/// 12.2, "Find"): below a node its proper descendants in its own tree alone. `Invalid` exactly where
+/// they are looked for by a selector and the grammar has none for the value; `Memory` where there is
+/// none for a list or a text. It goes over the nodes of the scope once, and for links over what is
+/// below each `a`: links inside one another are gone over once for each link around them.
+#[tactic(auto, unfolding(crate::specs::Found::Finds, crate::specs::Found::IsFound, crate::specs::Found::Refuses))]
 pub fn find(
     alloc: Global,
     document: &Document,
     scope: Scope,
     by: By,
     value: &str,
-) -> Result<NodeList, SelectorFault>
+) -> Result<NodeList, SelFault>
     requires alive { document.now.spent ≡ false }
     requires scope_in { IsWithin document.now.rows scope }
     ensures nodes { IfOk result (Finds document.now.rows scope by (chars value.now)) }
+
+    // each path comes before all later ones, so that no node comes twice
+    ensures by_paths { IfOk result (λ list. AreInOrder (paths_of document.now.rows list)) }
+    ensures exactly { (n : ℕ) → IfOk result (λ list. IsTrue (contains n list) ↔ (IsTrue (is_in document.now.rows scope n) × IsFound document.now.rows by (chars value.now) n)) }
     ensures within { IfOk result (All (λ node. node < count document.now.rows)) }
     ensures cause { IfErr result (Refuses by (chars value.now)) }
 {
@@ -48,10 +53,12 @@ fn by_selector(
     document: &Document,
     scope: Scope,
     text: &str,
-) -> Result<NodeList, SelectorFault>
+) -> Result<NodeList, SelFault>
     requires alive { document.now.spent ≡ false }
     requires scope_in { IsWithin document.now.rows scope }
     ensures nodes { IfOk result (Finds document.now.rows scope By.Css (chars text.now)) }
+    ensures by_paths { IfOk result (λ list. AreInOrder (paths_of document.now.rows list)) }
+    ensures exactly { (n : ℕ) → IfOk result (λ list. IsTrue (contains n list) ↔ (IsTrue (is_in document.now.rows scope n) × IsFound document.now.rows By.Css (chars text.now) n)) }
     ensures within { IfOk result (All (λ node. node < count document.now.rows)) }
     ensures cause { IfErr result (Refuses By.Css (chars text.now)) }
 {
@@ -69,6 +76,8 @@ fn by_words(
     requires alive { document.now.spent ≡ false }
     requires scope_in { IsWithin document.now.rows scope }
     ensures list { IfOk result (λ list. list ≡ named document.now.rows scope words (chars text.now)) }
+    ensures by_paths { IfOk result (λ list. AreInOrder (paths_of document.now.rows list)) }
+    ensures exactly { (n : ℕ) → IfOk result (λ list. IsTrue (contains n list) ↔ (IsTrue (is_in document.now.rows scope n) × IsTrue (is_named document.now.rows words (chars text.now) n))) }
     ensures within { IfOk result (All (λ node. node < count document.now.rows)) }
 {
     let mut found = NodeList::new(alloc);

@@ -3,6 +3,7 @@ pub mod Bools
 pub mod Lists
 pub mod NthLemmas
 pub mod Orders
+pub mod Descendants
 pub mod RightToLeft
 pub mod Substrings
 pub mod Fronts

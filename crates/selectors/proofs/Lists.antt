@@ -1,5 +1,5 @@
 -- Lists gone over item by item.
-use Rattle.std.proofs.Common.{◌≡◌, ℕ, suc, ◌+◌, ◌<◌, ◌≤◌, Bool, true, false, cond, List, [], ◌∷◌, ◌++◌, Some, length, drop, get_or, add-one, drop-cons, sym, ap, subst, ◌∙◌, rules, append_assoc}
+use Rattle.std.proofs.Common.{◌≡◌, ℕ, suc, ◌+◌, ◌<◌, ◌≤◌, Bool, true, false, cond, List, [], ◌∷◌, ◌++◌, Some, length, drop, get_or, add-one, drop-cons, sym, ap, subst, ◌∙◌, rules, append_assoc, append-nil}
 use Rattle.std.specs.Prelude.{◌&&◌, ◌||◌, filter, slice_get}
 use Rattle.std.specs.List.{All, list_any, list_all}
 use Rattle.std.proofs.lemmas.List.{drop_all}
@@ -44,6 +44,10 @@ left_next p xs i x within read is =
 
 pub kept_end : (p : ℕ → Bool) (xs : List ℕ) (i : ℕ) → length xs ≤ i → filter p (drop i xs) ≡ []
 kept_end p xs i past = ap (filter p) (drop_all i xs past)
+
+-- all that was kept, once the list was gone over
+pub kept_whole : (p : ℕ → Bool) (xs found : List ℕ) (i : ℕ) → length xs ≤ i → filter p xs ≡ found ++ filter p (drop i xs) → filter p xs ≡ found
+kept_whole p xs found i past same = same ∙ ap (λ ys. found ++ ys) (kept_end p xs i past) ∙ append-nil found
 
 -- ---- what holds of each item
 

@@ -35,7 +35,7 @@ kept_at p n y ys b h rest = elim (cases_eq y n) [
     kept_apart p n y ys true apart rest = rw apart rest
     kept_apart p n y ys false apart rest = rw apart rest
 
-contains-filter : (p : ℕ → Bool) (n : ℕ) (xs : List ℕ) → contains n (filter p xs) ≡ (contains n xs && p n)
+pub contains-filter : (p : ℕ → Bool) (n : ℕ) (xs : List ℕ) → contains n (filter p xs) ≡ (contains n xs && p n)
 contains-filter p n [] = refl
 contains-filter p n (y ∷ ys) = kept_at p n y ys (p y) refl (contains-filter p n ys)
 

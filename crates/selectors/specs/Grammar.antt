@@ -6,8 +6,8 @@ use Rattle.std.specs.Str.{str_to_ascii_lowercase}
 use Rattle.selectors.specs.Characters.{is_white, is_name_character, begins}
 use Rattle.selectors.specs.Names.{IdentifierIs, StringIs}
 use Rattle.selectors.specs.Steps.{ArgumentIs}
-use Rattle.selectors.specs.declared.fault.SelectorFault.{SelectorFault}
-use Rattle.selectors.specs.declared.fault.SelectorFault.TheVariants.{Invalid, Memory}
+use Rattle.selectors.specs.declared.fault.SelFault.{SelFault}
+use Rattle.selectors.specs.declared.fault.SelFault.TheVariants.{Invalid, Memory}
 use Rattle.selectors.specs.declared.selector.Simple.{Simple}
 use Rattle.selectors.specs.declared.selector.Simple.TheVariants.{Tag, Any, Id, Class, Has, Attr, Not, FirstChild, LastChild, Nth, Empty, Root, Checked, Enabled, Disabled}
 use Rattle.selectors.specs.declared.selector.Test.{Test}
@@ -155,7 +155,7 @@ pub record GrammarIs (text : List ℕ) (selector : List Complex) : Type 0 where
   pub selector_is : selector ≡ first ∷ others
 
 -- no selector is the text, or there was no memory
-abbrev pub IsCause : List ℕ → SelectorFault → Type 0
+abbrev pub IsCause : List ℕ → SelFault → Type 0
 IsCause text Invalid = (selector : List Complex) → GrammarIs text selector → ⊥
 IsCause text Memory = Unit {0}
 

@@ -4,6 +4,7 @@ use Rattle.std.specs.List.{list_any, range_with_len}
 use Rattle.page_tree.specs.Places.{contains, only, walk, max_depth}
 use Rattle.page_tree.specs.Rows.{Rows, document_order}
 use Rattle.selectors.specs.Siblings.{own_parent, own_above, earlier}
+use Rattle.selectors.specs.Scopes.{is_in}
 use Rattle.selectors.specs.Meets.{meets_all}
 use Rattle.selectors.specs.declared.selector.Simple.{Simple}
 use Rattle.selectors.specs.declared.selector.Combinator.{Combinator}
@@ -56,6 +57,10 @@ in_scope rows (Under n) = drop 1 (walk max_depth rows.kids n)
 -- the named nodes of the scope, in document order
 abbrev pub selected : Rows → Scope → List Complex → List ℕ
 selected rows scope selector = filter (is_named rows selector) (in_scope rows scope)
+
+-- a node of the scope that the selector names
+abbrev pub is_selected : Rows → Scope → List Complex → ℕ → Bool
+is_selected rows scope selector n = is_in rows scope n && is_named rows selector n
 
 abbrev pub first_of_list : List ℕ → Option ℕ
 first_of_list [] = None

@@ -1,9 +1,9 @@
-ghost use Rattle.std.specs.Prelude.{◌≡◌, ◌++◌, ◌<◌, false, IfOk, OnOk};
+ghost use Rattle.std.specs.Prelude.{◌≡◌, ℕ, ◌++◌, ◌<◌, false, IfOk, OnOk};
 ghost use Rattle.std.specs.List.{All};
-ghost use Rattle.page_tree.specs.Places.{walk as walk_of};
-ghost use Rattle.page_tree.specs.Rows.{count};
+ghost use Rattle.page_tree.specs.Places.{walk as walk_of, contains, AreInOrder};
+ghost use Rattle.page_tree.specs.Rows.{count, paths_of};
 ghost use Rattle.selectors.specs.Named.{in_scope};
-ghost use Rattle.selectors.specs.Scopes.{IsWithin};
+ghost use Rattle.selectors.specs.Scopes.{IsWithin, is_in};
 
 use crate::places::MAX_DEPTH;
 use crate::selector::Scope;
@@ -18,6 +18,10 @@ pub fn in_scope(alloc: Global, document: &Document, scope: Scope) -> Result<Node
     requires alive { document.now.spent ≡ false }
     requires scope_in { IsWithin document.now.rows scope }
     ensures list { IfOk result (λ list. list ≡ in_scope document.now.rows scope) }
+
+    // each path comes before all later ones, so that no node comes twice
+    ensures by_paths { IfOk result (λ list. AreInOrder (paths_of document.now.rows list)) }
+    ensures nodes { (n : ℕ) → IfOk result (λ list. contains n list ≡ is_in document.now.rows scope n) }
     ensures within { IfOk result (All (λ n. n < count document.now.rows)) }
 {
     match scope {
@@ -30,8 +34,11 @@ fn below(alloc: Global, document: &Document, node: NodeId) -> Result<NodeList, M
     requires alive { document.now.spent ≡ false }
     requires node_in { node < count document.now.rows }
     ensures list { IfOk result (λ list. list ≡ in_scope document.now.rows (Scope.Under node)) }
+    ensures by_paths { IfOk result (λ list. AreInOrder (paths_of document.now.rows list)) }
+    ensures nodes { (n : ℕ) → IfOk result (λ list. contains n list ≡ is_in document.now.rows (Scope.Under node) n) }
     ensures within { IfOk result (All (λ n. n < count document.now.rows)) }
 {
+    document.law();
     let mut found = NodeList::new(alloc);
     let kids = document.children(node)?;
     for kid in kids.as_slice() {

@@ -30,7 +30,7 @@ mod strings;
 mod texts;
 
 pub use candidates::in_scope;
-pub use fault::SelectorFault;
+pub use fault::SelFault;
 pub use laws::{nth_is_exact, one_selector};
 pub use parsing::parse;
 pub use printing::print;

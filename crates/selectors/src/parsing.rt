@@ -11,7 +11,7 @@ ghost use Rattle.selectors.specs.ReadingSelectors.{sign_of, right_at, join_at, g
 use crate::characters::characters;
 use crate::compounds::compound;
 use crate::escapes::{is_white_space, without_white};
-use crate::fault::SelectorFault;
+use crate::fault::SelFault;
 use crate::pseudo::behind;
 use crate::selector::{Combinator, Complex, Compound, JoinList, Selector};
 use std::alloc::Global;
@@ -194,13 +194,13 @@ fn read(alloc: Global, text: &str) -> Result<Option<Selector>, Memory>
 /// text once, and takes memory in proportion to it.
 ///
 /// `Invalid` exactly where the grammar has no selector for the text. `Memory` where there is none.
-pub fn parse(alloc: Global, text: &str) -> Result<Selector, SelectorFault>
+pub fn parse(alloc: Global, text: &str) -> Result<Selector, SelFault>
     ensures read { IfOk result (GrammarIs (chars text.now)) }
     ensures rules { IfOk result (λ selector. is_selector selector ≡ true) }
     ensures cause { IfErr result (IsCause (chars text.now)) }
 {
     match read(alloc, text)? {
         Some(selector) => Ok(selector),
-        None => Err(SelectorFault::Invalid),
+        None => Err(SelFault::Invalid),
     }
 }

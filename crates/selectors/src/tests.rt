@@ -160,7 +160,7 @@ fn the_worked_page_by_places(rt: HostRuntime) -> Result<(), Fail> {
 fn scopes(rt: HostRuntime) -> Result<(), Fail> {
     let page = worked_page(&rt, rt.alloc())?;
     // the scope, the selector, the nodes: 6 is a host, 16 its shadow root, 9 stands alone
-    let rows: [(u32, &[Piece], &[u32]); 11] = [
+    let rows: [(u32, &[Piece], &[u32]); 14] = [
         (12, &[Piece::Tag("ul")], &[13, 14]),
         (13, &[Piece::Tag("ul")], &[14]),
         (12, &[Piece::Tag("nav")], &[]),
@@ -182,6 +182,9 @@ fn scopes(rt: HostRuntime) -> Result<(), Fail> {
         (16, &[Piece::FirstChild], &[17]),
         (9, &[Piece::Any], &[]),
         (6, &[Piece::Tag("b")], &[]),
+        (1, &[Piece::Tag("b"), Piece::Or, Piece::Tag("li")], &[15]),
+        (1, &[Piece::Tag("body"), Piece::Or, Piece::Tag("i")], &[8]),
+        (17, &[Piece::Any], &[]),
     ];
     for (node, pieces, expected) in rows {
         names(

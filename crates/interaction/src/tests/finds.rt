@@ -1,7 +1,7 @@
 use crate::tests::pages::{Row, page};
 use crate::{By, find};
 use page_tree::Document;
-use selectors::{Scope, SelectorFault};
+use selectors::{Scope, SelFault};
 use std::alloc::Global;
 use std::process::Abort;
 use std::test::Fail;
@@ -27,7 +27,7 @@ const LINKS: [Row<'static>; 13] = [
 const ALL: Scope = Scope::Document;
 
 /// Where, how and by what is looked for, and what is found.
-const FINDS: [(Scope, By, &str, &[u32]); 18] = [
+const FINDS: [(Scope, By, &str, &[u32]); 19] = [
     (ALL, By::Link, "Home", &[2]),
     (ALL, By::Link, "go home !", &[5]),
     (ALL, By::Link, " go \n home ", &[]),
@@ -40,6 +40,7 @@ const FINDS: [(Scope, By, &str, &[u32]); 18] = [
     (ALL, By::Tag, "*", &[0, 1, 2, 4, 5, 12, 7]),
     (ALL, By::Css, "div a", &[5]),
     (ALL, By::Css, "b, a", &[2, 5, 12, 7]),
+    (Scope::Under(NodeId(1)), By::Link, "Home", &[2]),
     (Scope::Under(NodeId(4)), By::Tag, "*", &[5, 12]),
     (Scope::Under(NodeId(5)), By::Tag, "a", &[]),
     (Scope::Under(NodeId(5)), By::Link, "go home !", &[]),
@@ -85,7 +86,7 @@ fn a_text_that_is_no_selector_is_refused(rt: HostRuntime) -> Result<(), Fail> {
     assert!(rt; !page.spent());
     match find(rt.alloc(), &page, ALL, By::Css, ">") {
         Ok(_) => assert!(rt; false),
-        Err(fault) => assert_eq!(rt; fault, SelectorFault::Invalid),
+        Err(fault) => assert_eq!(rt; fault, SelFault::Invalid),
     }
     Ok(())
 }

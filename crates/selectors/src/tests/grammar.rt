@@ -1,14 +1,14 @@
-use crate::{SelectorFault, one_selector, parse, print};
+use crate::{SelFault, one_selector, parse, print};
 use std::alloc::Global;
 use std::process::Abort;
 use std::test::Fail;
 use wd_json::WdText;
 
 /// The printed form of the selector that the text is, or `(invalid)`.
-fn shown(alloc: Global, text: &str) -> Result<WdText, SelectorFault> {
+fn shown(alloc: Global, text: &str) -> Result<WdText, SelFault> {
     match parse(alloc, text) {
         Ok(selector) => Ok(print(alloc, &selector)?),
-        Err(SelectorFault::Invalid) => Ok(WdText::of(alloc, "(invalid)")?),
+        Err(SelFault::Invalid) => Ok(WdText::of(alloc, "(invalid)")?),
         Err(fault) => Err(fault),
     }
 }
