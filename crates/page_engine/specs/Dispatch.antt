@@ -7,7 +7,8 @@ use Rattle.page_engine.specs.Effects.{effects_on}
 use Rattle.page_engine.specs.Fitting.{anywhere, timed}
 use Rattle.page_engine.specs.Kinds.{is_same_kind}
 use Rattle.page_engine.specs.Lines.{line, logged}
-use Rattle.page_engine.specs.Scene.{Scene, Timer}
+use Rattle.page_engine.specs.Scene.{Scene}
+use Rattle.page_engine.specs.Timers.{Timer}
 use Rattle.page_engine.specs.declared.at.At.{At}
 use Rattle.page_engine.specs.declared.effect.Effect.{Effect}
 use Rattle.page_engine.specs.declared.event.Event.{Event}

@@ -1,13 +1,13 @@
 -- What an effect changes: one case for each row of the table of effects. An effect that names a node
 -- or a field that isn't there changes nothing.
 use Rattle.std.specs.Prelude.{ℕ, ◌+◌, Bool, not, ◌&&◌, nat_lt, List, [], ◌∷◌, ◌++◌, Option, Some, None, length, if◌then◌else◌}
-use Rattle.std.specs.BTreeMap.{insert_entry}
 use Rattle.page_tree.specs.Faults.{move_refusal}
 use Rattle.page_tree.specs.Rows.{Rows, count, is_element, is_text, is_shadow, moved, detached, with_attribute, with_text, with_value, with_pixels, with_layer, with_hidden, with_checked}
 use Rattle.page_tree.specs.declared.fault.TreeFault.{TreeFault}
 use Rattle.waits.specs.Moments.{last_moment, plus}
 use Rattle.page_engine.specs.Pages.{max_timers}
-use Rattle.page_engine.specs.Scene.{Scene, due_order}
+use Rattle.page_engine.specs.Scene.{Scene}
+use Rattle.page_engine.specs.Timers.{with_timer}
 use Rattle.page_engine.specs.declared.at.At.{At}
 use Rattle.page_engine.specs.declared.effect.Effect.{Effect, out-Effect}
 use Rattle.page_engine.specs.declared.effect.Effect.TheOpen.{Effect-F}
@@ -71,7 +71,7 @@ has_timer at s = nat_lt (length s.pending) max_timers && nat_lt (at.first + s.as
 -- a timer more, due that many milliseconds later
 abbrev pub starting : At → Scene → ℕ → List Effect → Scene
 starting at s ms effects = record s {
-  pending = insert_entry due_order s.pending (plus at.now ms, at.first + s.asked.made) effects;
+  pending = with_timer ((plus at.now ms, at.first + s.asked.made), effects) s.pending;
   asked = record s.asked { made = s.asked.made + 1 };
 }
 

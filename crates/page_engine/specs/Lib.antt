@@ -6,6 +6,7 @@ pub mod Books
 pub mod Pages
 pub mod Links
 pub mod Sites
+pub mod Timers
 pub mod Scene
 pub mod Effects
 pub mod Lines
@@ -14,3 +15,5 @@ pub mod Opening
 pub mod FirstValues
 pub mod Opened
 pub mod BuiltIn
+pub mod Blank
+pub mod Closing

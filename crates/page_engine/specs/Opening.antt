@@ -1,7 +1,6 @@
 -- The rows and the timers of a page as it is opened, before its nodes have their first values.
 use Rattle.std.specs.Prelude.{ℕ, ℤ, suc, Bool, false, List, [], ◌∷◌, Option, Some, None, length, map, if◌then◌else◌}
 use Rattle.std.specs.List.{range_with_len}
-use Rattle.std.specs.BTreeMap.{insert_entry}
 use Rattle.page_tree.specs.Attributes.{Attributes, changed_to}
 use Rattle.page_tree.specs.Rows.{Rows, origin, with_content, moved}
 use Rattle.page_tree.specs.declared.content.Content.{Content}
@@ -10,7 +9,7 @@ use Rattle.page_tree.specs.declared.content.Kind.TheVariants as tree
 use Rattle.page_tree.specs.declared.geometry.PixelBox.{PixelBox}
 use Rattle.waits.specs.Moments.{plus}
 use Rattle.page_engine.specs.Nodes.{is_child_of, is_shadow_of}
-use Rattle.page_engine.specs.Scene.{Timer, due_order}
+use Rattle.page_engine.specs.Timers.{Timer, with_timer}
 use Rattle.page_engine.specs.declared.page_def.NodeDef.{NodeDef}
 use Rattle.page_engine.specs.declared.page_def.NodeKind.{NodeKind}
 use Rattle.page_engine.specs.declared.page_def.NodeKind.TheVariants.{Element, Chars, Shadow}
@@ -69,7 +68,7 @@ bare_rows nodes = record {
 abbrev pub with_timers : ℕ → ℕ → List TimerDef → List Timer → List Timer
 with_timers moment number [] pending = pending
 with_timers moment number (timer ∷ timers) pending =
-    with_timers moment (suc number) timers (insert_entry due_order pending (plus moment timer.at, number) timer.effects)
+    with_timers moment (suc number) timers (with_timer ((plus moment timer.at, number), timer.effects) pending)
 
 -- ---- a node as it is added
 

@@ -1,25 +1,12 @@
 -- What events, timers and scripts change of a page, and what they ask of the world around it.
-use Rattle.std.specs.Prelude.{◌≡◌, ℕ, Bool, List, [], ◌∷◌, Option, Some, None}
-use Rattle.std.specs.Ordering.{nat_cmp, ordering_then}
-use Rattle.std.specs.List.{All}
-use Rattle.std.specs.Map.{keys_of}
-use Rattle.std.specs.declared.cmp.Ordering.{Ordering}
-use Rattle.std.specs.declared.cmp.Ordering.TheVariants.{Less}
+use Rattle.std.specs.Prelude.{ℕ, Bool, List, [], None}
 use Rattle.page_tree.specs.Rows.{Rows}
-use Rattle.page_engine.specs.declared.due.Due.{Due}
+use Rattle.page_engine.specs.Timers.{Timer}
 use Rattle.page_engine.specs.declared.effect.Effect.{Effect}
 use Rattle.page_engine.specs.declared.event.EventKind.{EventKind}
 use Rattle.page_engine.specs.declared.first.First.{First}
 use Rattle.page_engine.specs.declared.outcome.Outcome.{Outcome}
 use Rattle.page_engine.specs.declared.parts.Parts.{Parts}
-
--- a timer: its due moment and its number, and its effects
-abbrev pub Timer : Type 0
-Timer = (ℕ × ℕ) × List Effect
-
--- the order in which timers run: by the due moment, and at one moment by the number
-abbrev pub due_order : ℕ × ℕ → ℕ × ℕ → Ordering
-due_order a b = ordering_then (nat_cmp a.0 b.0) (nat_cmp a.1 b.1)
 
 pub record Scene : Type 0 where
   pub rows : Rows
@@ -52,15 +39,6 @@ scene_of page = record { rows = page.rows; log = page.log; pending = page.pendin
 abbrev pub page_after : PageState → Scene → PageState
 page_after page scene = record page { rows = scene.rows; log = scene.log; pending = scene.pending }
 
-abbrev pub first_due : List Timer → Option Due
-first_due [] = None
-first_due (timer ∷ timers) = Some (record { moment = timer.0.0; number = timer.0.1 })
-
 -- what the parts of a page and of an outcome stand for
 abbrev pub scene_in : Parts → Outcome → Scene
-scene_in parts asked = record { rows = parts.document.rows; log = parts.log; pending = parts.pending.entries; asked = asked }
-
--- the first runs before all others
-abbrev pub leads : List Timer → Type 0
-leads [] = Unit {0}
-leads (timer ∷ timers) = All (λ other. due_order timer.0 other ≡ Less) (keys_of timers)
+scene_in parts asked = record { rows = parts.document.rows; log = parts.log; pending = parts.pending; asked = asked }

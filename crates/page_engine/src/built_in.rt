@@ -20,14 +20,21 @@ pub fn built_in_page(alloc: Global) -> Result<PageDef, Memory>
     heading(alloc, &mut nodes)?;
     field(alloc, &mut nodes)?;
     link(alloc, &mut nodes)?;
-    Ok(PageDef {
+    Ok(bare_page(alloc, address, nodes))
+}
+
+/// A page without timers and scripts, which is loaded at once.
+pub fn bare_page(alloc: Global, address: WdText, nodes: NodeDefList) -> PageDef
+    ensures { result ≡ record { address = address; nodes = nodes; timers = []; book = []; eager = 0; load = 0 } }
+{
+    PageDef {
         address,
         nodes,
         timers: TimerList::new(alloc),
         book: Book::new(alloc),
         eager: 0,
         load: 0,
-    })
+    }
 }
 
 /// The page's address. That it is one is asked of `url`, which refuses it for want of memory alone.

@@ -49,7 +49,7 @@ pub fn dispatch(
 }
 
 /// Adds a line to a log that has fewer than 10,000.
-fn add_line(log: &mut TextList, text: WdText) -> Result<(), Memory>
+pub fn add_line(log: &mut TextList, text: WdText) -> Result<(), Memory>
     ensures { OnOk result (log.new ≡ logged text log.old) }
 {
     if log.len() < MAX_LINES {

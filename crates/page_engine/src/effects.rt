@@ -176,7 +176,7 @@ fn start(
 {
     let effects = copy_effects(parts.alloc, effects)?;
     let due = (plus(at.now, ms), at.first + asked.made);
-    drop(parts.pending.insert(due, effects)?);
+    parts.pending.insert(due, effects)?;
     asked.made += 1;
     Ok(())
 }

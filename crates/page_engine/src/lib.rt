@@ -4,6 +4,7 @@
 #![tactic(auto)]
 
 mod at;
+mod blank;
 mod book;
 mod built_in;
 mod changes;
@@ -25,8 +26,10 @@ mod place;
 mod site;
 mod starting;
 mod target;
+mod timers;
 mod values;
 
+pub use blank::blank_page;
 pub use book::{Book, BookCell, BookCells, BookEntry, CellPairs, CellRefs};
 pub use copying::copy_effects;
 pub use due::Due;

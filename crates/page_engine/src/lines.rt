@@ -1,8 +1,11 @@
 ghost use Rattle.std.specs.Prelude.{◌≡◌, ◌++◌, codes, IfOk};
 ghost use Rattle.std.specs.Fmt.{decimal};
+ghost use Rattle.page_engine.specs.Closing.{closing_line};
 ghost use Rattle.page_engine.specs.Lines.{line, head_of, place_text};
 
+use crate::effect::Prompt;
 use crate::event::{Event, EventKind};
+use crate::values::push;
 use std::alloc::Global;
 use wd_json::{Memory, WdText};
 
@@ -58,5 +61,24 @@ fn key_line(alloc: Global, kind: EventKind, target: u32, key: &WdText) -> Result
     ensures { IfOk result (λ text. text ≡ head_of kind target ++ codes " " ++ key.now) }
 {
     let text = format!(in alloc; "{} {} {}", kind.name(), target, key.as_str())?;
+    WdText::of(alloc, text.as_str())
+}
+
+/// The line of a prompt that is closed: `accept` with its answer, or `dismiss`.
+pub fn closing_line(alloc: Global, prompt: &Prompt, accepted: bool) -> Result<WdText, Memory>
+    ensures { IfOk result (λ text. text ≡ closing_line prompt.now accepted) }
+{
+    if accepted {
+        accept_line(alloc, &prompt.answer)
+    } else {
+        WdText::of(alloc, "dismiss")
+    }
+}
+
+fn accept_line(alloc: Global, answer: &WdText) -> Result<WdText, Memory>
+    ensures { IfOk result (λ text. text ≡ codes "accept " ++ answer.now) }
+{
+    let mut text = String::from_str(alloc, "accept ")?;
+    push(&mut text, answer.as_str())?;
     WdText::of(alloc, text.as_str())
 }

@@ -5,7 +5,7 @@ ghost use Rattle.page_engine.specs.Pages.{max_timers};
 
 use crate::copying::copy_effects;
 use crate::page_def::TimerList;
-use crate::parts::Timers;
+use crate::timers::Timers;
 use std::alloc::Global;
 use waits::plus;
 use wd_json::Memory;
@@ -15,13 +15,13 @@ pub fn pending(alloc: Global, timers: &TimerList, moment: u64, first: u64) -> Re
     requires moment { moment ≤ last_moment }
     requires numbers { first ≤ last_moment }
     requires few { length timers.now ≤ max_timers }
-    ensures { IfOk result (λ pending. pending.entries ≡ with_timers moment first timers.now []) }
+    ensures { IfOk result (λ pending. pending ≡ with_timers moment first timers.now []) }
 {
     let mut pending = Timers::new(alloc);
     let mut number = first;
     for timer in timers.as_slice() {
         let effects = copy_effects(alloc, &timer.effects)?;
-        drop(pending.insert((plus(moment, timer.at), number), effects)?);
+        pending.insert((plus(moment, timer.at), number), effects)?;
         number += 1;
     }
     Ok(pending)

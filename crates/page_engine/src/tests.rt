@@ -1,6 +1,8 @@
 mod asking;
 mod effects;
 mod opening;
+mod prompts;
+mod timers;
 
 use crate::page::Page;
 use crate::page_def::{HandlerList, TimerDef, TimerList};

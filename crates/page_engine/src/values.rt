@@ -186,7 +186,7 @@ fn add_text(document: &Document, node: NodeId, joined: &mut String) -> Result<()
 }
 
 /// Adds a text.
-fn push(joined: &mut String, text: &str) -> Result<(), Memory>
+pub fn push(joined: &mut String, text: &str) -> Result<(), Memory>
     ensures { OnOk result (chars (string_bytes joined.new) ≡ chars (string_bytes joined.old) ++ chars text.now) }
 {
     joined.push_str(text)?;

@@ -11,7 +11,7 @@ use crate::page_def::{
     AttrList, HandlerList, NodeDef, NodeDefList, NodeKind, PageDef, TimerDef, TimerList,
 };
 use crate::tests::parents;
-use crate::{Book, Due, Effect, EffectList, Event, EventKind, Site};
+use crate::{Book, Due, Effect, EffectList, Event, EventKind, Site, blank_page};
 use page_tree::PixelBox;
 use std::alloc::Global;
 use std::process::Abort;
@@ -234,5 +234,22 @@ fn the_built_in_site_has_one_page(rt: HostRuntime) -> Result<(), Fail> {
     let def = site.pages.at(0);
     let page = Page::open(rt.alloc(), def, 0, 0, false)?;
     parents(&rt, &page, &[99, 0, 1, 2, 0, 4, 5, 4, 4, 8]);
+    Ok(())
+}
+
+#[test]
+fn about_blank_has_three_nodes_and_no_timer(rt: HostRuntime) -> Result<(), Fail> {
+    let def = blank_page(rt.alloc())?;
+    assert_eq!(rt; def.address.as_str(), "about:blank");
+    let page = Page::open(rt.alloc(), &def, 5, 0, false)?;
+    parents(&rt, &page, &[99, 0, 0]);
+    assert!(rt; !page.spent());
+    assert_eq!(rt; page.document().count(), 3);
+    assert!(rt; page.next_due().is_none());
+    let root = NodeId::of(0);
+    assert_eq!(rt; page.document().tag(root), Some("html"));
+    assert_eq!(rt; page.document().tag(NodeId::of(1)), Some("head"));
+    assert_eq!(rt; page.document().tag(NodeId::of(2)), Some("body"));
+    assert_eq!(rt; page.document().pixels(root), None);
     Ok(())
 }
