@@ -2,7 +2,8 @@
 use Rattle.std.proofs.Common.{◌≡◌, ◌≢◌, ◌<◌, ◌≤◌, ◌∙◌, ℕ, max, Bool, true, false, List, Some, slice_get, sym, ap, refl, subst, arith, eq-eqb}
 use Rattle.std.specs.Prelude.{nat_eq}
 use Rattle.std.proofs.lemmas.Bool.{false≢true, eqb-true}
-use Rattle.page_engine.specs.Scene.{Timer, PageState}
+use Rattle.page_engine.specs.Scene.{PageState}
+use Rattle.page_engine.specs.Timers.{Timer}
 use Rattle.remote_end.specs.Advance.{NoneDue, IsNext, Advances, Over, Runs, ran}
 use Rattle.remote_end.specs.Laws.{AdvancesToOne}
 use Rattle.remote_end.proofs.DueOrder.{not_both_first}
@@ -18,7 +19,7 @@ module _ (to : ℕ) (pending : List Timer) where
       by true e = eqb-true place other e
       by false e =
           let apart : place ≢ other = λ s. false≢true (sym e ∙ eq-eqb place other s) in
-          absurd (not_both_first timer.0 rival.0 (a.least other rival b.here (λ s. apart (sym s)) b.due) (b.least place timer a.here apart a.due))
+          absurd (not_both_first timer rival place other (a.least other rival b.here (λ s. apart (sym s)) b.due) (b.least place timer a.here apart a.due))
 
   same_timer : (place other : ℕ) (timer rival : Timer) → IsNext pending to place timer → IsNext pending to other rival → timer ≡ rival
   same_timer place other timer rival a b =

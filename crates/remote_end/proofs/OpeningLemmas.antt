@@ -1,11 +1,10 @@
 -- A session that is opened.
-use Rattle.std.proofs.Common.{◌≡◌, ◌∙◌, ◌+◌, ◌++◌, ℕ, zero, suc, List, [], ◌∷◌, Option, Ok, min, ap, sym, subst, refl, arith}
+use Rattle.std.proofs.Common.{◌≡◌, ◌∙◌, ◌+◌, ◌++◌, ℕ, zero, suc, List, [], ◌∷◌, Option, Ok, ap, sym, subst, refl, arith}
 use Rattle.std.specs.List.{All}
 use Rattle.std.proofs.lemmas.List.Elements.{All-append}
 use Rattle.capabilities.specs.Processed.{processed}
 use Rattle.capabilities.specs.Timeouts.{AreInRange}
 use Rattle.capabilities.specs.declared.matched.Matched.{Matched}
-use Rattle.waits.specs.Moments.{last_moment}
 use Rattle.wd_json.specs.declared.value.Json.{Json}
 use Rattle.remote_end.specs.declared.reply.Reply.{Reply}
 use Rattle.remote_end.specs.declared.session.Session.{Session}
@@ -13,17 +12,16 @@ use Rattle.remote_end.specs.Setting.{Setting}
 use Rattle.remote_end.specs.State.{State, Opens, IsWhole}
 use Rattle.remote_end.specs.Plan.{at_once}
 use Rattle.remote_end.specs.Replies.{success}
-use Rattle.remote_end.specs.Opening.{start_page, opened, session_value}
+use Rattle.remote_end.specs.Opening.{opened, session_value}
 use Rattle.remote_end.specs.Rows.{new_session}
 use Rattle.remote_end.specs.Step.{EndsWith}
-use Rattle.remote_end.proofs.DueOrder.{first_sorted, none_sorted}
 
 module _ (setting : Setting) (next : ℕ) (matched : Matched) (reading : ℕ) (session : Session) (is : session ≡ opened setting next matched reading) where
   pub in_range : AreInRange matched.timeouts → AreInRange session.matched.timeouts
   in_range h = let P : Session → Type 0 = λ s. AreInRange s.matched.timeouts in subst P (sym is) h
 
   pub is_whole : AreInRange matched.timeouts → IsWhole session
-  is_whole h = let whole : IsWhole (opened setting next matched reading) = record { known = refl; page = refl; timeouts = h; moment = omega arith; order = first_sorted (min reading last_moment) 0 (start_page setting.site).timers [] none_sorted; address = refl } in subst IsWhole (sym is) whole
+  is_whole h = let whole : IsWhole (opened setting next matched reading) = record { known = refl; page = refl; timeouts = h; moment = omega arith; address = refl } in subst IsWhole (sym is) whole
 
   pub opens : (old new : List Session) (parameters : Json) (value : Json) (reply : Reply)
       → processed setting.name parameters ≡ Ok matched → value ≡ session_value setting session → reply ≡ success value → new ≡ old ++ session ∷ []

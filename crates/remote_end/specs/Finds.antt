@@ -12,7 +12,7 @@ use Rattle.references.specs.Identifier.{Identifier}
 use Rattle.references.specs.declared.kind.Kind.TheVariants.{Element}
 use Rattle.references.specs.declared.name.NodeName.{NodeName}
 use Rattle.selectors.specs.Named.{first_of_list}
-use Rattle.selectors.specs.declared.fault.SelectorFault.TheVariants.{Invalid}
+use Rattle.selectors.specs.declared.fault.SelFault.TheVariants.{Invalid}
 use Rattle.selectors.specs.declared.selector.Scope.{Scope}
 use Rattle.selectors.specs.declared.selector.Scope.TheVariants.{Under}
 use Rattle.wd_errors.specs.declared.code.Code.{Code}

@@ -1,11 +1,8 @@
 -- What the command machine keeps between requests, and what a command leaves of it.
 use Rattle.std.specs.Prelude.{◌≡◌, ◌≤◌, ℕ, ◌+◌, ◌^◌, ◌||◌, not, nat_lt, List, [], ◌∷◌, ◌++◌, Bool, false, Option, Some, None, length, slice_get, slice_set}
 use Rattle.std.specs.List.{position, remove}
-use Rattle.std.specs.List.Sorted.{IsStrictlySortedBy}
-use Rattle.std.specs.Map.{keys_of}
 use Rattle.std.specs.Str.{encode_utf8_all}
 use Rattle.capabilities.specs.Timeouts.{AreInRange}
-use Rattle.page_engine.specs.Scene.{due_order}
 use Rattle.references.specs.Identifier.{is_text_of}
 use Rattle.waits.specs.Moments.{last_moment}
 use Rattle.remote_end.specs.declared.session.Session.{Session}
@@ -77,11 +74,10 @@ changed state own (Opens s) = record { next = state.next + 1; sessions = state.s
 -- ---- for private clauses
 
 -- no call on what it keeps has wanted memory, its timeouts are at most 2^53 - 1, it has reached no moment
--- after 2^62, its page's timers stand in the order in which they run, and it keeps the page's address
+-- after 2^62, and it keeps the page's address
 pub record IsWhole (s : Session) : Type 0 where
   pub known : s.known.spent ≡ false
   pub page : s.page.spent ≡ false
   pub timeouts : AreInRange s.matched.timeouts
   pub moment : s.at ≤ last_moment
-  pub order : IsStrictlySortedBy due_order (keys_of s.page.pending)
   pub address : s.page.address ≡ s.address

@@ -1,7 +1,5 @@
 ghost use Rattle.std.specs.Prelude.{◌≡◌, ◌≤◌, Some, false, OnOk};
-ghost use Rattle.std.specs.List.Sorted.{IsStrictlySortedBy};
-ghost use Rattle.std.specs.Map.{keys_of};
-ghost use Rattle.page_engine.specs.Scene.{due_order, first_due};
+ghost use Rattle.page_engine.specs.Timers.{AreInOrder, first_due};
 ghost use Rattle.waits.specs.Moments.{last_moment};
 ghost use Rattle.remote_end.specs.Advance.{Advances, Advanced, due_at};
 ghost use Rattle.remote_end.specs.Moments.{start_of};
@@ -15,7 +13,8 @@ use wd_json::Memory;
 /// When the next timer is due; `None` where none is due by then.
 fn due_by(page: &Page, to: u64) -> Option<u64>
     requires { page.now.spent ≡ false }
-    ensures { result ≡ due_at to (first_due page.now.pending) }
+    ensures due { result ≡ due_at to (first_due page.now.pending) }
+    ensures order { AreInOrder page.now.pending }
 {
     match page.next_due() {
         Some(due) => {
@@ -32,12 +31,10 @@ fn due_by(page: &Page, to: u64) -> Option<u64>
 /// Runs the timers that are due by then, one after another.
 fn run_timers(page: &mut Page, reached: u64, to: u64) -> Result<(), Memory>
     requires alive { page.old.spent ≡ false }
-    requires order { IsStrictlySortedBy due_order (keys_of page.old.pending) }
     requires onwards { reached ≤ to }
     requires moment { to ≤ last_moment }
     ensures runs { OnOk result (Advances to page.old reached page.new) }
     ensures alive { OnOk result (page.new.spent ≡ false) }
-    ensures order { OnOk result (IsStrictlySortedBy due_order (keys_of page.new.pending)) }
     ensures address { OnOk result (page.new.address ≡ page.old.address) }
 {
     let mut reached = reached;

@@ -17,7 +17,7 @@ use crate::reply::{Reply, failure, success};
 use crate::session::Session;
 use interaction::{By, find};
 use references::{IdFault, IdList, Kind, lists_are_handed_out_whole};
-use selectors::{Scope, SelectorFault};
+use selectors::{Scope, SelFault};
 use std::alloc::Global;
 use wd_errors::Code;
 use wd_json::{Json, JsonList, Memory, NodeId, NodeList};
@@ -155,8 +155,8 @@ pub(crate) fn find_in(
         value_in(parameters),
     ) {
         Ok(nodes) => Ok(nodes_reply(alloc, session, wanted, &nodes)?),
-        Err(SelectorFault::Invalid) => failure(alloc, Code::InvalidSelector),
-        Err(SelectorFault::Memory) => Err(Memory),
+        Err(SelFault::Invalid) => failure(alloc, Code::InvalidSelector),
+        Err(SelFault::Memory) => Err(Memory),
     }
 }
 
