@@ -1,6 +1,6 @@
 //! The worked conversations, as tests of the whole server over files and lines in memory, the table of heads,
-//! and the table of what is told of files that spell no site. What
-//! is expected is worked out from the rules in docs/PROFILE.md, never from the program.
+//! the table of what is told of files that spell no site, and the real adapters where the system refuses.
+//! What is expected is worked out from the rules in docs/PROFILE.md, never from the program.
 #![tactic(auto)]
 
 #[cfg(test)]
@@ -21,6 +21,8 @@ mod heavy_sites;
 mod page_faults;
 #[cfg(test)]
 mod refusals;
+#[cfg(test)]
+mod refusing;
 #[cfg(test)]
 mod session;
 #[cfg(test)]

@@ -4,10 +4,10 @@ use std::process::Abort;
 use std::test::Fail;
 use wd_http::{FileFault, Files, WriteFault};
 use wd_json::WdBytes;
-use webdriverd::StdFiles;
+use webdriverd::{FileSystem, RuntimeFiles, StdFiles};
 
 /// What a read answered: its bytes, or its fault.
-fn read<'a, S: fs::Files>(
+fn read<'a, S: FileSystem>(
     files: &mut StdFiles<'a, S>,
     name: &str,
     limit: u64,
@@ -19,7 +19,8 @@ fn read<'a, S: fs::Files>(
 #[test]
 fn a_file_is_written_and_read_to_its_limit(rt: HostRuntime) -> Result<(), Fail> {
     let alloc = rt.alloc();
-    let mut files = StdFiles::new(alloc, &rt);
+    let system = RuntimeFiles::new(&rt);
+    let mut files = StdFiles::new(alloc, &system);
     let bytes = WdBytes::of(alloc, b"five\n")?;
     files.write("a.json", &bytes)?;
     assert_eq!(rt; fs::read_to_string(&rt, "a.json")?.as_str(), "five\n");

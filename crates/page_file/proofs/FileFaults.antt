@@ -3,9 +3,11 @@ use Rattle.std.proofs.Common.{◌≡◌, ◌≢◌, ◌⊎◌, inl, inr, ℕ, �
 use Rattle.std.specs.Prelude.{◌||◌, nat_lt, IfErr}
 use Rattle.std.specs.Option.{option_map_or}
 use Rattle.std.proofs.lemmas.Bool.Decides.{nat_tests}
+use Rattle.page_engine.specs.declared.page_def.PageDef.{PageDef}
 use Rattle.page_file.proofs.EachMore.{some_is}
 use Rattle.page_file.specs.First.{Fault}
-use Rattle.page_file.specs.SiteFiles.{FileMap, file_limit, files_limit, bytes_at, size_at, is_too_long, IsTextOf, IsFileOf, no_value, bad_value, IsBadAt, IsFileFault, IsReadCause}
+use Rattle.page_file.specs.SiteFiles.{FileMap, file_limit, files_limit, bytes_at, size_at, is_too_long, IsTextOf, IsFileOf, no_value, bad_value, IsBadAt, IsFileFault, IsPagesFault, IsReadCause}
+use Rattle.page_file.specs.declared.listing.Entry.{Entry}
 use Rattle.page_file.specs.declared.site_fault.SiteFault.{SiteFault}
 use Rattle.page_file.specs.declared.site_fault.SiteFault.TheVariants.{Read, TooLong, Bad, Links, Memory}
 use Rattle.page_file.specs.declared.why.Why.{Why}
@@ -60,18 +62,22 @@ module _ (files : FileMap) (name : List ℕ) (before : ℕ) where
   bad_fault wrong row why r (inr is) at = subst (IsFileFault files name before wrong) (sym is) tt
 
 -- a bad file isn't one whose read failed
-pub no_read : (before now : ℕ) (name : List ℕ) (row : ℕ) (why : Why) (r : SiteFault) → (r ≡ Bad name row why) ⊎ (r ≡ Memory) → IsReadCause before now r
-no_read before now name row why r (inl is) = subst (IsReadCause before now) (sym is) tt
-no_read before now name row why r (inr is) = subst (IsReadCause before now) (sym is) tt
+pub no_read : (before now : ℕ) (name : List ℕ) (row : ℕ) (why : Why) (r : SiteFault) → now ≡ before → (r ≡ Bad name row why) ⊎ (r ≡ Memory) → IsReadCause before now r
+no_read before now name row why r same (inl is) = subst (IsReadCause before now) (sym is) same
+no_read before now name row why r same (inr is) = subst (IsReadCause before now) (sym is) same
+
+-- no page leads to a read
+pub pages_cause : (before now : ℕ) (entries : List Entry) (pages : List PageDef) (fault : SiteFault) → now ≡ before → IsPagesFault entries pages fault → IsReadCause before now fault
+pages_cause before now entries pages (Read name) same wrong = absurd wrong
+pages_cause before now entries pages (TooLong name) same wrong = absurd wrong
+pages_cause before now entries pages (Bad name row why) same wrong = same
+pages_cause before now entries pages (Links name) same wrong = same
+pages_cause before now entries pages Memory same wrong = same
 
 -- a clause on a fault, for the result that holds it
 pub of_err : {T : Type 0} (P : SiteFault → Type 0) (r : Result T SiteFault) (fault : SiteFault) → r ≡ Err fault → P fault → IfErr r P
 of_err {T} P r fault is h = subst (λ (x : Result T SiteFault). IfErr x P) (sym is) h
 
--- the count of faults rose since an earlier moment too
-pub cause_since : (first before now : ℕ) (fault : SiteFault) → first ≤ before → IsReadCause before now fault → IsReadCause first now fault
-cause_since first before now (Read name) earlier rose = omega (arith, earlier, rose)
-cause_since first before now (TooLong name) earlier rose = tt
-cause_since first before now (Bad name row why) earlier rose = tt
-cause_since first before now (Links name) earlier rose = tt
-cause_since first before now Memory earlier rose = tt
+-- the cause since an earlier moment, where the count stood then as it did later
+pub cause_since : (first before now : ℕ) (fault : SiteFault) → before ≡ first → IsReadCause before now fault → IsReadCause first now fault
+cause_since first before now fault same cause = subst (λ (n : ℕ). IsReadCause n now fault) same cause

@@ -18,7 +18,6 @@ use Rattle.page_file.specs.declared.site_fault.SiteFault.{SiteFault}
 use Rattle.page_file.specs.declared.site_fault.SiteFault.TheVariants.{Read, TooLong, Bad, Links, Memory}
 use Rattle.page_file.specs.declared.why.Why.{Why}
 use Rattle.page_file.specs.declared.why.Why.TheVariants as reason
-use Rattle.wd_http.specs.Causes.{Rose}
 use Rattle.wd_http.specs.Files.{file_at}
 use Rattle.wd_json.specs.Json.{data_of}
 use Rattle.wd_json.specs.Whole.{ReadsAs, is_whole}
@@ -158,10 +157,10 @@ IsOfFiles (Bad name row why) = Unit {0}
 IsOfFiles (Links name) = Unit {0}
 IsOfFiles Memory = ⊥
 
--- a read failed only where the count of faults rose
+-- A read that failed raised the count of faults by one; what else was wrong left it as it was.
 abbrev pub IsReadCause : ℕ → ℕ → SiteFault → Type 0
-IsReadCause before now (Read name) = Rose before now
-IsReadCause before now (TooLong name) = Unit {0}
-IsReadCause before now (Bad name row why) = Unit {0}
-IsReadCause before now (Links name) = Unit {0}
-IsReadCause before now Memory = Unit {0}
+IsReadCause before now (Read name) = now ≡ before + 1
+IsReadCause before now (TooLong name) = now ≡ before
+IsReadCause before now (Bad name row why) = now ≡ before
+IsReadCause before now (Links name) = now ≡ before
+IsReadCause before now Memory = now ≡ before

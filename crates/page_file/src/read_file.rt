@@ -35,7 +35,8 @@ fn bad(alloc: Global, name: &WdText, row: u32, why: Why) -> SiteFault
     }
 }
 
-// The bytes of the file, which is read once. `total` counts the bytes that were read.
+// The bytes of the file, which is read once. `total` counts the bytes that were read. The memory for a
+// fault's name is taken before the read, so that a read that failed is told.
 fn read_bytes<F: Files>(
     alloc: Global,
     files: &mut F,
@@ -48,18 +49,20 @@ fn read_bytes<F: Files>(
     ensures size { IfOk result (λ bytes. total.new ≡ total.old + length bytes) }
     ensures within { OnOk result (total.new ≤ files_limit) }
     ensures fault { IfErr result (λ fault. IsTrue F.tells → (wrong : AnyJson → Option Fault) → IsFileFault (F.files files.old) name.now total.old wrong fault) }
-    ensures read { IfErr result (IsReadCause (F.faults files.old) (F.faults files.new)) }
-    ensures later { F.faults files.old ≤ F.faults files.new }
+    ensures made { OnOk result (F.made files.new ≡ F.made files.old + 1) }
+    ensures kept { OnOk result (F.faults files.new ≡ F.faults files.old) }
+    ensures cause { IfErr result (IsReadCause (F.faults files.old) (F.faults files.new)) }
     ensures same { IsTrue F.tells → F.files files.new ≡ F.files files.old }
 {
     let limit = FILE_LIMIT.min(FILES_LIMIT - *total);
+    let at_hand = name.copy(alloc)?;
     match files.read(name.as_str(), limit) {
         Ok(bytes) => {
             *total += bytes.len() as u64;
             Ok(bytes)
         }
-        Err(FileFault::Failed) => Err(SiteFault::Read(name.copy(alloc)?)),
-        Err(FileFault::TooLong) => Err(SiteFault::TooLong(name.copy(alloc)?)),
+        Err(FileFault::Failed) => Err(SiteFault::Read(at_hand)),
+        Err(FileFault::TooLong) => Err(SiteFault::TooLong(at_hand)),
         Err(FileFault::Memory) => Err(SiteFault::Memory),
     }
 }
@@ -76,8 +79,9 @@ fn read_value<F: Files>(
     ensures size { OnOk result (IsTrue F.tells → total.new ≡ total.old + size_at (F.files files.old) name.now) }
     ensures within { OnOk result (total.new ≤ files_limit) }
     ensures fault { IfErr result (λ fault. IsTrue F.tells → (wrong : AnyJson → Option Fault) → IsFileFault (F.files files.old) name.now total.old wrong fault) }
-    ensures read { IfErr result (IsReadCause (F.faults files.old) (F.faults files.new)) }
-    ensures later { F.faults files.old ≤ F.faults files.new }
+    ensures made { OnOk result (F.made files.new ≡ F.made files.old + 1) }
+    ensures kept { OnOk result (F.faults files.new ≡ F.faults files.old) }
+    ensures cause { IfErr result (IsReadCause (F.faults files.old) (F.faults files.new)) }
     ensures same { IsTrue F.tells → F.files files.new ≡ F.files files.old }
 {
     let bytes = read_bytes(alloc, files, name, total)?;
@@ -103,8 +107,9 @@ pub fn read_listing_file<F: Files>(
     ensures size { OnOk result (IsTrue F.tells → total.new ≡ total.old + size_at (F.files files.old) name.now) }
     ensures within { OnOk result (total.new ≤ files_limit) }
     ensures fault { IfErr result (λ fault. IsTrue F.tells → IsFileFault (F.files files.old) name.now total.old listing_fault fault) }
-    ensures read { IfErr result (IsReadCause (F.faults files.old) (F.faults files.new)) }
-    ensures later { F.faults files.old ≤ F.faults files.new }
+    ensures made { OnOk result (F.made files.new ≡ F.made files.old + 1) }
+    ensures kept { OnOk result (F.faults files.new ≡ F.faults files.old) }
+    ensures cause { IfErr result (IsReadCause (F.faults files.old) (F.faults files.new)) }
     ensures same { IsTrue F.tells → F.files files.new ≡ F.files files.old }
 {
     let value = read_value(alloc, files, name, total)?;
@@ -129,8 +134,9 @@ pub fn read_page_file<F: Files>(
     ensures size { OnOk result (IsTrue F.tells → total.new ≡ total.old + size_at (F.files files.old) entry.now.file) }
     ensures within { OnOk result (total.new ≤ files_limit) }
     ensures fault { IfErr result (λ fault. IsTrue F.tells → IsFileFault (F.files files.old) entry.now.file total.old page_fault fault) }
-    ensures read { IfErr result (IsReadCause (F.faults files.old) (F.faults files.new)) }
-    ensures later { F.faults files.old ≤ F.faults files.new }
+    ensures made { OnOk result (F.made files.new ≡ F.made files.old + 1) }
+    ensures kept { OnOk result (F.faults files.new ≡ F.faults files.old) }
+    ensures cause { IfErr result (IsReadCause (F.faults files.old) (F.faults files.new)) }
     ensures same { IsTrue F.tells → F.files files.new ≡ F.files files.old }
 {
     let value = read_value(alloc, files, &entry.file, total)?;

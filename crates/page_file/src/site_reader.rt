@@ -1,4 +1,4 @@
-ghost use Rattle.std.specs.Prelude.{◌≡◌, ◌≤◌, ◌<◌, All, Some, IsTrue, IfOk, IfErr, OnOk, length, map, slice_get};
+ghost use Rattle.std.specs.Prelude.{◌≡◌, ◌≤◌, ◌<◌, ◌+◌, All, Some, IsTrue, IfOk, IfErr, OnOk, length, map, slice_get};
 ghost use Rattle.std.specs.Option.{option_map};
 ghost use Rattle.std.specs.Str.{chars};
 ghost use Rattle.page_engine.specs.Links.{AreLinked};
@@ -59,8 +59,9 @@ fn read_pages<F: Files>(
     ensures lawful { IfOk result (λ pages. All IsLawfulPage pages) }
     ensures addresses { IfOk result (λ pages. map (λ page. page.address) pages ≡ map (λ entry. entry.address) entries.now) }
     ensures fault { IfErr result (λ fault. IsTrue F.tells → IsEntryFault (F.files files.old) total.old entries.now fault) }
-    ensures read { IfErr result (IsReadCause (F.faults files.old) (F.faults files.new)) }
-    ensures later { F.faults files.old ≤ F.faults files.new }
+    ensures made { IfOk result (λ pages. F.made files.new ≡ F.made files.old + length pages) }
+    ensures kept { OnOk result (F.faults files.new ≡ F.faults files.old) }
+    ensures cause { IfErr result (IsReadCause (F.faults files.old) (F.faults files.new)) }
     ensures same { IsTrue F.tells → F.files files.new ≡ F.files files.old }
 {
     let mut pages = Vec::new(alloc);
@@ -74,7 +75,8 @@ fn read_pages<F: Files>(
 /// The site that the files spell: the file of that name lists its pages, and each of them has a file
 /// of its own (the page format). Files are read in the order of the list, one read an entry, and
 /// each page is checked before the next is read. Then come the links of all pages in their order, and
-/// last their weight.
+/// last their weight. A read that fails is the last one; nothing else raises the files' count of
+/// faults.
 ///
 /// The first thing that is wrong is told with the name of the file at hand. `Read` where the file
 /// couldn't be read, which raised the files' count of faults. `TooLong` where it has more than
@@ -87,8 +89,9 @@ pub fn read_site<F: Files>(alloc: Global, files: &mut F, name: &str) -> Result<S
     ensures site { IfOk result (λ site. IsTrue F.tells → IsSiteOf (F.files files.old) (chars name.now) site) }
     ensures lawful { IfOk result IsLawfulSite }
     ensures fault { IfErr result (λ fault. IsTrue F.tells → IsFirstFault (F.files files.old) (chars name.now) fault) }
-    ensures read { IfErr result (IsReadCause (F.faults files.old) (F.faults files.new)) }
-    ensures later { F.faults files.old ≤ F.faults files.new }
+    ensures made { IfOk result (λ site. F.made files.new ≡ F.made files.old + 1 + length site.pages) }
+    ensures kept { OnOk result (F.faults files.new ≡ F.faults files.old) }
+    ensures cause { IfErr result (IsReadCause (F.faults files.old) (F.faults files.new)) }
     ensures same { IsTrue F.tells → F.files files.new ≡ F.files files.old }
 {
     let own = WdText::of(alloc, name)?;

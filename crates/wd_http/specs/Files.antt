@@ -1,5 +1,5 @@
 -- Files by their names.
-use Rattle.std.specs.Prelude.{◌≡◌, ◌≤◌, ◌<◌, ℕ, List, Bool, Option, Some, Result, Ok, Err, length, reverse}
+use Rattle.std.specs.Prelude.{◌≡◌, ◌≤◌, ◌<◌, ◌+◌, ℕ, List, Bool, Option, Some, Result, Ok, Err, length, reverse}
 use Rattle.std.specs.Str.{bytes_eq, encode_utf8_all}
 use Rattle.std.specs.Map.{lookup}
 use Rattle.wd_http.specs.declared.fault.FileFault.{FileFault}
@@ -29,6 +29,21 @@ ReadsFile files name limit (Ok bytes) = (file_at name files ≡ Some bytes) × (
 ReadsFile files name limit (Err TooLong) = IsTooLong name limit files
 ReadsFile files name limit (Err Failed) = Unit {0}
 ReadsFile files name limit (Err Memory) = Unit {0}
+
+-- What a read answers, by how many bytes it took of its file: it is too long exactly where that is more
+-- than the limit.
+abbrev pub Takes : ℕ → ℕ → Result (List ℕ) FileFault → Type 0
+Takes took limit (Ok bytes) = (took ≡ length bytes) × (length bytes ≤ limit)
+Takes took limit (Err TooLong) = limit < took
+Takes took limit (Err Failed) = Unit {0}
+Takes took limit (Err Memory) = Unit {0}
+
+-- A read is counted, unless there was no memory for it.
+abbrev pub IsOneMore : {T : Type 0} → ℕ → ℕ → Result T FileFault → Type 0
+IsOneMore before now (Ok _) = now ≡ before + 1
+IsOneMore before now (Err TooLong) = now ≡ before + 1
+IsOneMore before now (Err Failed) = now ≡ before + 1
+IsOneMore before now (Err Memory) = Unit {0}
 
 -- the file of that name has these bytes, and any other is as it was
 pub record Sets (old new : List (List ℕ × List ℕ)) (name bytes : List ℕ) : Type 0 where

@@ -1,7 +1,8 @@
 -- The bytes of a response.
-use Rattle.std.specs.Prelude.{ℕ, ◌==◌, if◌then◌else◌, Bool, List, [], ◌∷◌, ◌++◌, length, codes}
+use Rattle.std.specs.Prelude.{ℕ, ◌==◌, if◌then◌else◌, Bool, unwrap_or, List, [], ◌∷◌, ◌++◌, length, codes}
 use Rattle.std.specs.List.{list_any}
 use Rattle.std.specs.Fmt.{decimal}
+use Rattle.http.specs.StatusCode.{reason_phrase}
 
 -- the statuses that are sent
 abbrev pub statuses : List ℕ
@@ -10,17 +11,9 @@ statuses = 200 ∷ 400 ∷ 404 ∷ 405 ∷ 413 ∷ 431 ∷ 500 ∷ 501 ∷ []
 abbrev pub is_status : ℕ → Bool
 is_status status = list_any (λ s. s == status) statuses
 
--- the phrase of a status
+-- the reason phrase of a status
 abbrev pub phrase : ℕ → List ℕ
-phrase status =
-    if status == 200 then codes "OK" else
-    if status == 400 then codes "Bad Request" else
-    if status == 404 then codes "Not Found" else
-    if status == 405 then codes "Method Not Allowed" else
-    if status == 413 then codes "Payload Too Large" else
-    if status == 431 then codes "Request Header Fields Too Large" else
-    if status == 500 then codes "Internal Server Error" else
-    codes "Not Implemented"
+phrase status = unwrap_or (reason_phrase status) []
 
 -- the end of a line
 abbrev pub crlf : List ℕ

@@ -1,6 +1,6 @@
 -- A line in memory.
-use Rattle.std.specs.Prelude.{◌≡◌, ℕ, true, false, List, [], min, length, Result, Ok, Err}
-use Rattle.wd_http.specs.Calls.{Calls, first_calls, one_more, IsCalled}
+use Rattle.std.specs.Prelude.{◌≡◌, ◌+◌, ℕ, true, false, List, [], min, length, Result, Ok, Err}
+use Rattle.wd_http.specs.Calls.{Calls, first_calls, IsCalled}
 use Rattle.wd_http.specs.Least.{least}
 use Rattle.wd_http.specs.Talk.{Talk, fresh}
 use Rattle.wd_http.specs.declared.fault.Failed.{Failed}
@@ -26,7 +26,7 @@ told_of connections fails most = record {
 -- `open` or `next` fails exactly where the number of the call says so.
 abbrev pub Refuses : {T : Type 0} → Told → Told → Result T Failed → Type 0
 Refuses old new (Ok _) = IsCalled old.calls new.calls false × (new.most ≡ old.most) × (new.refusals ≡ old.refusals)
-Refuses old new (Err _) = IsCalled old.calls new.calls true × (new.most ≡ old.most) × (new.refusals ≡ one_more old.refusals)
+Refuses old new (Err _) = IsCalled old.calls new.calls true × (new.most ≡ old.most) × (new.refusals ≡ old.refusals + 1)
 
 -- A read fails exactly where its number says so; else it moves the least of three numbers: how many bytes
 -- move at most, the length of the buffer and what is left.

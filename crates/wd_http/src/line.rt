@@ -5,8 +5,8 @@ ghost use Rattle.wd_http.specs.Causes.{HasCause, HasWriteCause};
 use crate::fault::{Failed, WriteFault};
 
 /// Connections that come one after another. A line that tells shows in its talk what comes and
-/// goes, and each call says how the talk changes. A call answers `Failed` only where its count of
-/// faults rose in that call; want of memory raises no count.
+/// goes, and each call says how the talk changes. A call answers `Failed` exactly where it raised the
+/// count of faults, by one; no other answer raises it.
 pub trait Line {
     /// Whether it tells what comes and goes.
     ghost tells: { Bool };

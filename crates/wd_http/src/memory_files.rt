@@ -1,7 +1,7 @@
 ghost use Rattle.std.specs.Prelude.{◌≡◌, ◌≤◌, true, IfOk, length};
 ghost use Rattle.std.specs.Option.{option_copied};
 ghost use Rattle.wd_http.specs.Causes.{HasReadCause, HasWriteCause};
-ghost use Rattle.wd_http.specs.Files.{file_at, ReadsFile, WritesFile};
+ghost use Rattle.wd_http.specs.Files.{IsOneMore, file_at, ReadsFile, Takes, WritesFile};
 ghost use Rattle.wd_http.specs.Filed.{filed_of, ReadsCounted, WritesCounted};
 
 use crate::call_count::CallCount;
@@ -13,12 +13,14 @@ use std::marker::Model;
 use wd_json::{Memory, WdBytes, WdText};
 
 /// Files in memory. The calls of `read` and `write` are numbered together from 1, and those whose
-/// numbers stand in a list fail. Contracts see the files and the calls.
+/// numbers stand in a list fail. Contracts see the files, the calls, and how many bytes the last
+/// read took.
 #[derive(Drop)]
 pub struct MemoryFiles {
     alloc: Global,
     files: FileList,
     calls: CallCount,
+    took: u64,
 }
 
 impl Model for MemoryFiles {
@@ -26,7 +28,7 @@ impl Model for MemoryFiles {
 
     ghost Value = { Filed };
 
-    ghost view = { λ m. record { files = m.files; calls = m.calls } };
+    ghost view = { λ m. record { files = m.files; calls = m.calls; took = m.took } };
 }
 
 impl MemoryFiles {
@@ -38,6 +40,7 @@ impl MemoryFiles {
             alloc,
             files,
             calls: CallCount::new(fails),
+            took: 0,
         }
     }
 
@@ -70,15 +73,25 @@ impl Files for MemoryFiles {
 
     ghost faults = { λ m. m.calls.faults };
 
+    ghost made = { λ m. m.calls.made };
+
+    ghost took = { λ m. m.took };
+
     /// It fails exactly where the number of the call stands in the list, or there is no file of
-    /// that name. It goes over all files.
+    /// that name. It goes over all files. A call that would have a number past 2^64 − 1 answers
+    /// `Memory`.
     fn read(&mut self, name: &str, limit: u64) -> Result<WdBytes, FileFault>
         ensures bound { IfOk result (λ bytes. length bytes ≤ limit) }
+        ensures takes { Takes self.new.took limit result }
         ensures told { ReadsFile self.old.files name.now limit result }
         ensures same { self.new.files ≡ self.old.files }
+        ensures made { IsOneMore self.old.calls.made self.new.calls.made result }
         ensures cause { HasReadCause self.old.calls.faults self.new.calls.faults result }
         ensures exact { ReadsCounted self.old self.new name.now limit result }
     {
+        if !self.calls.is_left() {
+            return Err(FileFault::Memory);
+        }
         if self.calls.fails() {
             return Err(FileFault::Failed);
         }
@@ -86,19 +99,23 @@ impl Files for MemoryFiles {
             self.calls.fault();
             return Err(FileFault::Failed);
         };
-        if bytes.len() as u64 > limit {
+        self.took = bytes.len() as u64;
+        if self.took > limit {
             return Err(FileFault::TooLong);
         }
         Ok(WdBytes::of(self.alloc, bytes.as_slice())?)
     }
 
     /// It fails exactly where the number of the call stands in the list. After `Memory` the files
-    /// are as they were.
+    /// are as they were; so it is for a call that would have a number past 2^64 − 1.
     fn write(&mut self, name: &str, bytes: &WdBytes) -> Result<(), WriteFault>
         ensures told { WritesFile self.old.files self.new.files name.now bytes.now result }
         ensures cause { HasWriteCause self.old.calls.faults self.new.calls.faults result }
         ensures exact { WritesCounted self.old self.new result }
     {
+        if !self.calls.is_left() {
+            return Err(WriteFault::Memory);
+        }
         if self.calls.fails() {
             return Err(WriteFault::Failed);
         }

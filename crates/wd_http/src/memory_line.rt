@@ -25,14 +25,14 @@ pub struct MemoryLine {
 }
 
 impl Model for MemoryLine {
-    ghost use Rattle.std.specs.Prelude.{◌<◌};
+    ghost use Rattle.std.specs.Prelude.{◌<◌, ◌≤◌};
     ghost use Rattle.wd_http.specs.Told.{Told};
 
     ghost Value = { Told };
 
     ghost view = { λ m. record { talk = m.connections; calls = m.calls; most = m.most; refusals = m.refusals } };
 
-    ghost invariant = { λ m. 0 < m.most };
+    ghost invariant = { λ m. (0 < m.most) × (m.refusals ≤ m.calls.faults) };
 }
 
 impl MemoryLine {
@@ -66,7 +66,7 @@ impl MemoryLine {
         ensures refusal { HasCause self.old.refusals self.new.refusals result }
     {
         if self.calls.fails() {
-            self.refusals = self.refusals.saturating_add(1);
+            self.refusals += 1;
             return Err(Failed);
         }
         Ok(())

@@ -1,6 +1,7 @@
 ghost use Rattle.std.specs.Prelude.{◌≡◌};
 ghost use Rattle.wd_http.specs.BadHeads.{head_status, head_message};
 
+use http::StatusCode;
 use wd_json::{WdBytes, WdText};
 
 /// A request that was read whole.
@@ -38,12 +39,19 @@ impl BadHead {
     pub fn status(self) -> u16
         ensures { result ≡ head_status self }
     {
+        self.status_code().as_u16()
+    }
+
+    // The same as a status code.
+    fn status_code(self) -> StatusCode
+        ensures { result ≡ head_status self }
+    {
         match self {
-            BadHead::HeadLong => 431,
-            BadHead::Head => 400,
-            BadHead::Coding => 501,
-            BadHead::Length => 400,
-            BadHead::BodyLong => 413,
+            BadHead::HeadLong => StatusCode::REQUEST_HEADER_FIELDS_TOO_LARGE,
+            BadHead::Head => StatusCode::BAD_REQUEST,
+            BadHead::Coding => StatusCode::NOT_IMPLEMENTED,
+            BadHead::Length => StatusCode::BAD_REQUEST,
+            BadHead::BodyLong => StatusCode::PAYLOAD_TOO_LARGE,
         }
     }
 

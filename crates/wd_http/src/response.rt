@@ -1,6 +1,7 @@
 ghost use Rattle.std.specs.Prelude.{◌≡◌, ◌++◌, IfOk, IsTrue, [], if◌then◌else◌, codes};
 ghost use Rattle.wd_http.specs.Sent.{response, phrase, is_status, crlf};
 
+use http::StatusCode;
 use std::alloc::Global;
 use wd_json::{Memory, WdBytes};
 
@@ -9,15 +10,9 @@ fn phrase(status: u16) -> &'static str
     requires { IsTrue (is_status status) }
     ensures { result.now ≡ phrase status }
 {
-    match status {
-        200 => "OK",
-        400 => "Bad Request",
-        404 => "Not Found",
-        405 => "Method Not Allowed",
-        413 => "Payload Too Large",
-        431 => "Request Header Fields Too Large",
-        500 => "Internal Server Error",
-        _ => "Not Implemented",
+    match StatusCode::from_u16(status) {
+        Ok(code) => code.canonical_reason().unwrap(),
+        Err(_) => unreachable!(),
     }
 }
 

@@ -4,8 +4,8 @@ ghost use Rattle.wd_http.specs.Written.{TakesBytes};
 
 use crate::fault::WriteFault;
 
-/// Where text is written to. A call answers `Failed` only where the count of faults rose in that
-/// call; want of memory raises no count.
+/// Where text is written to. A call answers `Failed` exactly where it raised the count of faults, by
+/// one; no other answer raises it.
 pub trait Sink {
     /// Whether it tells what was written.
     ghost tells: { Bool };

@@ -1,5 +1,4 @@
-ghost use Rattle.std.specs.Prelude.{◌≡◌, ◌≤◌, IsTrue, IfOk, OnOk, false};
-ghost use Rattle.wd_http.specs.Causes.{Rose};
+ghost use Rattle.std.specs.Prelude.{◌≡◌, ◌≤◌, ◌+◌, IsTrue, IfOk, OnOk, OnErr, true, false};
 ghost use Rattle.wd_http.specs.Sent.{is_status};
 ghost use Rattle.webdriverd.specs.Sent.{response_to};
 ghost use Rattle.webdriverd.specs.Service.{SentOn, Replies};
@@ -14,8 +13,10 @@ use wd_json::{Memory, WdBytes};
 /// handed all of them, and what a write didn't take is handed over again.
 pub(crate) fn send<L: Line>(line: &mut L, bytes: &[u8]) -> Result<bool, Memory>
     ensures told { IsTrue L.tells → IfOk result (SentOn (L.talk line.old) (L.talk line.new) bytes.now) }
+    ensures sent { IfOk result (λ whole. whole ≡ true → L.faults line.new ≡ L.faults line.old) }
+    ensures cause { IfOk result (λ whole. whole ≡ false → L.faults line.new ≡ L.faults line.old + 1) }
+    ensures memory { OnErr result (L.faults line.new ≡ L.faults line.old) }
     ensures faults { L.faults line.old ≤ L.faults line.new }
-    ensures cause { IfOk result (λ whole. whole ≡ false → Rose (L.faults line.old) (L.faults line.new)) }
     ensures refusals { L.refusals line.new ≡ L.refusals line.old }
 {
     let mut at = 0;

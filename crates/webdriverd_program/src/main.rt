@@ -2,24 +2,24 @@
 #![tactic(auto)]
 
 use std::alloc::Global;
+use std::env;
+use std::io::ErrorKind;
 use std::process::ExitCode;
-use std::{env, io};
 use wd_http::{Files, Line, Sink, VirtualClock};
-use wd_json::WdText;
-use webdriverd::{NoScripts, PipeLine, StdFiles, StreamSink, webdriverd};
+use wd_json::{Memory, WdText};
+use webdriverd::{NoScripts, PipeLine, RuntimeFiles, StdFiles, StreamSink, webdriverd};
 
 /// The words of the command line, without the program's name; none where one of them is no text.
-fn words_of(rt: &HostRuntime) -> io::Result<Vec<WdText>> {
+fn words_of(rt: &HostRuntime) -> Result<Vec<WdText>, Memory> {
     let alloc = rt.alloc();
     let mut words = Vec::new(alloc);
-    let Ok(args) = env::args(rt) else {
-        return Ok(words);
+    let args = match env::args(rt) {
+        Ok(args) => args,
+        Err(error) if error.kind() == ErrorKind::OutOfMemory => return Err(Memory),
+        Err(_) => return Ok(words),
     };
     for word in args.skip(1) {
-        match WdText::of(alloc, word.as_str()) {
-            Ok(text) => words.push(text)?,
-            Err(_) => return Err(io::ErrorKind::OutOfMemory.into()),
-        }
+        words.push(WdText::of(alloc, word.as_str())?)?;
     }
     Ok(words)
 }
@@ -49,7 +49,8 @@ fn main(rt: HostRuntime) -> ExitCode {
     let Ok(words) = words_of(&rt) else {
         return ExitCode::from(6);
     };
-    let mut files = StdFiles::new(rt.alloc(), &rt);
+    let system = RuntimeFiles::new(&rt);
+    let mut files = StdFiles::new(rt.alloc(), &system);
     let mut line = PipeLine::new(rt.stdin(), rt.stdout());
     let is_pipe = match words.first() {
         Some(word) => word.as_str() == "pipe",

@@ -1,4 +1,5 @@
-use Rattle.std.proofs.Common.{◌≡◌, ◌+◌, ℕ, List, IsTrue, All, take, map, ap, sym, subst, ◌∙◌, rules, arith}
+use Rattle.std.proofs.Common.{◌≡◌, ◌+◌, ℕ, List, IsTrue, All, length, take, map, ap, sym, subst, ◌∙◌, rules, arith}
+use Rattle.std.proofs.lemmas.List.{length_push}
 use Rattle.page_engine.specs.Pages.{IsLawfulPage}
 use Rattle.page_engine.specs.declared.page_def.PageDef.{PageDef}
 use Rattle.page_file.proofs.FileFaults.{of_err, cause_since}
@@ -20,12 +21,12 @@ returns-in_err-page-clause-fault g c =
     (λ t. entry_fault files c.args.total.now c.args.entries.now old.entry-index entry c.loop-entry-test.true c.entry-item.is old.pages.items old.total fault
     (old.invariant.pages t) (old.invariant.size t) (subst (λ (fs : FileMap). IsFileFault fs entry.file old.total page_fault fault) (old.invariant.same t) (c.in_err-page.ensures.fault t)))
 
-pub returns-in_err-page-clause-read : goal.returns-in_err-page-clause-read
-returns-in_err-page-clause-read g c =
+pub returns-in_err-page-clause-cause : goal.returns-in_err-page-clause-cause
+returns-in_err-page-clause-cause g c =
     let old = c.loop-entry in
     let fault : SiteFault = c.in_err-page.field-0.0 in
     of_err (IsReadCause (g.F.Files.faults c.args.files.now) (g.F.Files.faults c.read_page_file.new.files)) c.from_residual.result fault (search rules)
-    (cause_since (g.F.Files.faults c.args.files.now) (g.F.Files.faults old.files) (g.F.Files.faults c.read_page_file.new.files) fault old.invariant.later c.in_err-page.ensures.read)
+    (cause_since (g.F.Files.faults c.args.files.now) (g.F.Files.faults old.files) (g.F.Files.faults c.read_page_file.new.files) fault old.invariant.kept c.in_err-page.ensures.cause)
 
 pub loop-entry-preserved : goal.loop-entry-preserved
 loop-entry-preserved g c =
@@ -51,7 +52,10 @@ loop-entry-preserved g c =
       within = c.in_ok-page.ensures.within;
       lawful = subst (All IsLawfulPage) (sym c.in_ok-push.ensures.items) (lawful_more old.pages.items page old.invariant.lawful c.in_ok-page.ensures.lawful);
       addresses = ap (map (λ (p : PageDef). p.address)) c.in_ok-push.ensures.items ∙ addresses_more files c.args.total.now entries i entry within here old.pages.items page old.invariant.addresses c.in_ok-page.ensures.address;
-      later = omega (arith, old.invariant.later, c.read_page_file.ensures.later);
+      made =
+          let items = ap (λ (ps : List PageDef). length ps) c.in_ok-push.ensures.items ∙ length_push old.pages.items page in
+          omega (arith, c.in_ok-page.ensures.made, items, old.invariant.made);
+      kept = c.in_ok-page.ensures.kept ∙ old.invariant.kept;
     }
 
 pub returns-in_err-push-clause-fault : goal.returns-in_err-push-clause-fault

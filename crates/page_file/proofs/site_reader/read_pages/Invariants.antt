@@ -1,4 +1,4 @@
-use Rattle.std.proofs.Common.{◌≡◌, ◌≤◌, ◌+◌, IsTrue, All, take, map}
+use Rattle.std.proofs.Common.{◌≡◌, ◌≤◌, ◌+◌, IsTrue, All, length, take, map}
 use Rattle.page_engine.specs.Pages.{IsLawfulPage}
 use Rattle.page_file.specs.SiteFiles.{files_limit, sizes, AreGoodFiles}
 use Rattle.page_file.proofs.site_reader.read_pages.Given as goal
@@ -11,5 +11,6 @@ invariant-loop-entry g l = record {
   within : l.total ≤ files_limit;
   lawful : All IsLawfulPage l.pages.items;
   addresses : map (λ page. page.address) l.pages.items ≡ map (λ entry. entry.address) (take l.entry-index l.entries);
-  later : g.F.Files.faults l.fn.files ≤ g.F.Files.faults l.files;
+  made : g.F.Files.made l.files ≡ g.F.Files.made l.fn.files + length l.pages.items;
+  kept : g.F.Files.faults l.files ≡ g.F.Files.faults l.fn.files;
 }

@@ -54,6 +54,6 @@ reads-preserved g c =
       few = rests.few;
       room = c.read.auto.into ∙ c.reads.invariant.room;
       short = let s = rests.short in let b = c.in-Ok.ensures.bound in rw more (omega (arith, length-append c.answer_all.new.framer.unread (take c.in-Ok.n c.read.new.into), length-take c.in-Ok.n c.read.new.into));
-      faults = omega (arith, c.reads.invariant.faults, c.answer_all.ensures.faults, c.read.ensures.cause.later);
+      faults = omega (arith, c.reads.invariant.faults, c.answer_all.ensures.faults, c.in-Ok.ensures.cause);
       refusals = c.read.ensures.refusal ∙ c.answer_all.ensures.refusals ∙ c.reads.invariant.refusals;
     }
