@@ -8,3 +8,4 @@ pub mod Scalars
 pub mod Spelled
 pub mod Back
 pub mod Joined
+pub mod Second

@@ -1,5 +1,6 @@
 pub mod Table
 pub mod Path
+pub mod Segments
 pub mod Route
 pub mod Spelling
 pub mod Commands

@@ -2,13 +2,14 @@ ghost use Rattle.std.specs.Prelude.{◌≡◌, true, false, ℕ, List, IfOk, IfE
 ghost use Rattle.endpoints.specs.declared.command.Command.{Command as AnyCommand};
 ghost use Rattle.endpoints.specs.declared.route.Route.{Route as AnyRoute};
 ghost use Rattle.endpoints.specs.Table.{row_of};
-ghost use Rattle.endpoints.specs.Path.{segments, fits, path_in};
+ghost use Rattle.endpoints.specs.Path.{segments, fits};
 ghost use Rattle.endpoints.specs.Route.{IsRouteOf, IsCause, IsUnknownCommand, IsUnknownMethod, SameRoute};
 ghost use Rattle.endpoints.specs.Routes.{entry, table_rows, with_row};
 ghost use Rattle.matchit.specs.Order.{placed};
 
 use crate::command::Command;
 use crate::route::{Route, RouteFault};
+use crate::segments::path_of_target;
 use crate::table::{COMMANDS, PATHS, method_of, pattern_of};
 use crate::variables::value;
 use matchit::Router;
@@ -87,16 +88,6 @@ fn put(router: &mut Router<Command>, command: Command) -> Result<(), Memory>
     match router.insert(pattern_of(command), command) {
         Ok(()) => Ok(()),
         Err(_) => Err(Memory),
-    }
-}
-
-// The target up to its first `?`.
-fn path_of_target(target: &str) -> &str
-    ensures { result.now ≡ path_in target.now }
-{
-    match target.split_once('?') {
-        Some((path, _)) => path,
-        None => target,
     }
 }
 

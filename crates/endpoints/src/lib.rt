@@ -7,6 +7,7 @@ mod endpoints;
 mod filled;
 mod path;
 mod route;
+mod segments;
 mod table;
 mod variables;
 
@@ -15,6 +16,7 @@ pub use endpoints::{Endpoints, one_answer_for_request};
 pub use filled::has_variables;
 pub use path::{SEGMENT, path_of};
 pub use route::{Route, RouteFault};
+pub use segments::{is_spelled, segment, session_stands_second};
 pub use table::{COMMANDS, command_of, method_of, one_command_for_name, pattern_of};
 
 #[cfg(test)]

@@ -1,5 +1,8 @@
 use crate::table::{COMMANDS, pattern_of};
-use crate::{Command, Endpoints, Route, RouteFault, command_of, has_variables, method_of, path_of};
+use crate::{
+    Command, Endpoints, Route, RouteFault, command_of, has_variables, is_spelled, method_of,
+    path_of, segment,
+};
 use std::alloc::Global;
 use std::process::Abort;
 use std::test::Fail;
@@ -187,6 +190,17 @@ fn identifiers_stand_written_out(rt: HostRuntime) -> Result<(), Fail> {
         "/session/00000000-0001-8000-8000-000100000000/element"
     );
     Ok(())
+}
+
+#[test]
+fn segments_are_compared_decoded(rt: HostRuntime) {
+    let target = "/session/%61b%2d1/url?/x";
+    assert!(rt; segment(target, 0) == Some(""));
+    assert!(rt; segment(target, 2).is_some_and(|named| is_spelled(named, "ab-1")));
+    assert!(rt; segment(target, 4).is_none());
+    assert!(rt; !is_spelled("AB-1", "ab-1"));
+    assert!(rt; !is_spelled("ab-1", "ab-12"));
+    assert!(rt; !is_spelled("ab-12", "ab-1"));
 }
 
 #[test]

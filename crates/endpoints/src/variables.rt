@@ -20,7 +20,7 @@ fn place_of(pattern: &str, variable: &str) -> Option<usize>
 }
 
 // The segment at a place.
-fn segment_at(path: &str, place: usize) -> Option<&str>
+pub(crate) fn segment_at(path: &str, place: usize) -> Option<&str>
     ensures { option_map (λ s. s.now) result ≡ slice_get (segments path.now) place }
 {
     path.split('/').nth(place)

@@ -61,10 +61,15 @@ impl Id {
     pub fn has_text(self, text: &str) -> bool
         ensures { result ≡ is_text_of self text.now }
     {
-        let uuid = self.uuid();
-        let mut buffer = Uuid::encode_buffer();
-        let own: &str = uuid.hyphenated().encode_lower(&mut buffer);
-        own == text
+        let mut buffer = [0; 36];
+        self.text_in(&mut buffer) == text
+    }
+
+    /// The identifier's text, written into the buffer: as `id_text` gives it. It takes no memory.
+    pub fn text_in(self, buffer: &mut [u8; 36]) -> &str
+        ensures { result.now ≡ text_of self }
+    {
+        self.uuid().hyphenated().encode_lower(buffer)
     }
 }
 
@@ -73,10 +78,8 @@ impl Id {
 pub fn id_text(alloc: Global, id: Id) -> Result<WdText, Memory>
     ensures { IfOk result (λ text. text ≡ text_of id) }
 {
-    let uuid = id.uuid();
-    let mut buffer = Uuid::encode_buffer();
-    let text = uuid.hyphenated().encode_lower(&mut buffer);
-    WdText::of(alloc, text)
+    let mut buffer = [0; 36];
+    WdText::of(alloc, id.text_in(&mut buffer))
 }
 
 /// A law: no two identifiers have one text.

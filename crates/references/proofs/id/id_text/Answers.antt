@@ -1,7 +1,7 @@
-use Rattle.std.proofs.Common.{◌∙◌, ap, subst, inl, refl, sym}
+use Rattle.std.proofs.Common.{◌∙◌, subst, inl, refl, sym}
 use Rattle.std.specs.Str.{IsAscii}
 use Rattle.std.proofs.lemmas.Result.{IfOk-weaker}
-use Rattle.uuid.specs.Text.{hyphenated_text, lower}
+use Rattle.uuid.specs.Text.{lower}
 use Rattle.uuid.proofs.TextLemmas.{hyphenated_ascii}
 use Rattle.references.specs.Identifier.{text_of, bytes_of}
 use Rattle.references.proofs.id.id_text.Goals as goal
@@ -9,6 +9,6 @@ use Rattle.references.proofs.id.id_text.Goals as goal
 pub returns : goal.returns
 unfolding text_of
 returns c =
-    let text = c.encode_lower-text.ensures.text ∙ ap (hyphenated_text lower) (c.hyphenated.ensures ∙ c.uuid-uuid.ensures) in
+    let text = c.text_in.ensures in
     let ascii = subst IsAscii (sym text) (hyphenated_ascii lower (bytes_of c.args.id) (inl refl)) in
     IfOk-weaker c.of.result _ _ (λ t e. e ∙ text) (c.of.ensures.ascii ascii)
