@@ -36,4 +36,6 @@ mod timeouts;
 #[cfg(test)]
 mod turns;
 #[cfg(test)]
+mod waiting;
+#[cfg(test)]
 mod worked_site;

@@ -70,7 +70,8 @@ pub fn clock(alloc: Global, readings: &[u64]) -> Result<ListClock, Fail> {
     Ok(ListClock::new(numbers))
 }
 
-fn request(alloc: Global, method: &str, target: &str, body: &str) -> Result<Request, Fail> {
+/// A request by its method, its target and its body.
+pub fn request_of(alloc: Global, method: &str, target: &str, body: &str) -> Result<Request, Fail> {
     Ok(Request {
         method: WdText::of(alloc, method)?,
         target: WdText::of(alloc, target)?,
@@ -88,8 +89,8 @@ pub fn asked(
     ask: (&str, &str, &str),
     reply: (u16, &str),
 ) -> Result<(), Fail> {
-    let request = request(alloc, ask.0, ask.1, ask.2)?;
-    assert!(rt; !remote.spent());
+    let request = request_of(alloc, ask.0, ask.1, ask.2)?;
+    assert!(rt; remote.is_ready());
     let found = remote.answer(&request, clock, &mut NoScripts)?;
     assert_eq!(rt; found.status, reply.0);
     let text = write(alloc, &found.body)?;

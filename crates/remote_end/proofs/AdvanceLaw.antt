@@ -9,10 +9,10 @@ use Rattle.remote_end.specs.Laws.{AdvancesToOne}
 use Rattle.remote_end.proofs.DueOrder.{not_both_first}
 
 module _ (to : ℕ) (pending : List Timer) where
-  not_over : (place : ℕ) (timer : Timer) → NoneDue pending to → IsNext pending to place timer → ⊥
+  pub not_over : (place : ℕ) (timer : Timer) → NoneDue pending to → IsNext pending to place timer → ⊥
   not_over place timer none next = let late : to < timer.0.0 = none place timer next.here in let due : timer.0.0 ≤ to = next.due in omega arith
 
-  same_place : (place other : ℕ) (timer rival : Timer) → IsNext pending to place timer → IsNext pending to other rival → place ≡ other
+  pub same_place : (place other : ℕ) (timer rival : Timer) → IsNext pending to place timer → IsNext pending to other rival → place ≡ other
   same_place place other timer rival a b = by (nat_eq place other) refl
     where
       by : (same : Bool) → nat_eq place other ≡ same → place ≡ other
@@ -21,15 +21,15 @@ module _ (to : ℕ) (pending : List Timer) where
           let apart : place ≢ other = λ s. false≢true (sym e ∙ eq-eqb place other s) in
           absurd (not_both_first timer rival place other (a.least other rival b.here (λ s. apart (sym s)) b.due) (b.least place timer a.here apart a.due))
 
-  same_timer : (place other : ℕ) (timer rival : Timer) → IsNext pending to place timer → IsNext pending to other rival → timer ≡ rival
+  pub same_timer : (place other : ℕ) (timer rival : Timer) → IsNext pending to place timer → IsNext pending to other rival → timer ≡ rival
   same_timer place other timer rival a b =
       let same : place ≡ other = same_place place other timer rival a b in
       let here : Some timer ≡ Some rival = sym a.here ∙ ap (λ (i : ℕ). slice_get pending i) same ∙ b.here in cc
 
-abbrev after : PageState → ℕ → ℕ → Timer → PageState
+abbrev pub after : PageState → ℕ → ℕ → Timer → PageState
 after page reached place timer = ran page place timer (max timer.0.0 reached)
 
-over_one : (to : ℕ) (page : PageState) (reached : ℕ) (other : PageState) → Advances to page reached other → NoneDue page.pending to → page ≡ other
+pub over_one : (to : ℕ) (page : PageState) (reached : ℕ) (other : PageState) → Advances to page reached other → NoneDue page.pending to → page ≡ other
 over_one to p r o (Over page reached none) over = refl
 over_one to p r o (Runs page later reached place timer next rest) over = absurd (not_over to page.pending place timer over next)
 

@@ -1,7 +1,5 @@
 -- A session that is opened.
-use Rattle.std.proofs.Common.{◌≡◌, ◌∙◌, ◌+◌, ◌++◌, ℕ, zero, suc, List, [], ◌∷◌, Option, Ok, ap, sym, subst, refl, arith}
-use Rattle.std.specs.List.{All}
-use Rattle.std.proofs.lemmas.List.Elements.{All-append}
+use Rattle.std.proofs.Common.{◌≡◌, ◌∙◌, ◌+◌, ◌++◌, ℕ, List, [], ◌∷◌, Option, Ok, ap, sym, subst, refl, arith}
 use Rattle.capabilities.specs.Processed.{processed}
 use Rattle.capabilities.specs.Timeouts.{AreInRange}
 use Rattle.capabilities.specs.declared.matched.Matched.{Matched}
@@ -10,6 +8,7 @@ use Rattle.remote_end.specs.declared.reply.Reply.{Reply}
 use Rattle.remote_end.specs.declared.session.Session.{Session}
 use Rattle.remote_end.specs.Setting.{Setting}
 use Rattle.remote_end.specs.State.{State, Opens, IsWhole}
+use Rattle.remote_end.specs.Waits.{IsKept}
 use Rattle.remote_end.specs.Plan.{at_once}
 use Rattle.remote_end.specs.Replies.{success}
 use Rattle.remote_end.specs.Opening.{opened, session_value}
@@ -23,6 +22,14 @@ module _ (setting : Setting) (next : ℕ) (matched : Matched) (reading : ℕ) (s
   pub is_whole : AreInRange matched.timeouts → IsWhole session
   is_whole h = let whole : IsWhole (opened setting next matched reading) = record { known = refl; page = refl; timeouts = h; moment = omega arith; address = refl } in subst IsWhole (sym is) whole
 
+  pub is_kept : AreInRange matched.timeouts → IsKept session
+  is_kept h =
+      let kept : IsKept (opened setting next matched reading) = record { whole = subst IsWhole is (is_whole h); fits = tt } in
+      subst IsKept (sym is) kept
+
+  pub number_of_opened : session.number ≡ next
+  number_of_opened = ap (λ (s : Session). s.number) is
+
   pub opens : (old new : List Session) (parameters : Json) (value : Json) (reply : Reply)
       → processed setting.name parameters ≡ Ok matched → value ≡ session_value setting session → reply ≡ success value → new ≡ old ++ session ∷ []
       → (named : Option (List ℕ))
@@ -33,14 +40,8 @@ module _ (setting : Setting) (next : ℕ) (matched : Matched) (reading : ℕ) (s
       let before : State = record { next = next; sessions = old } in
       record {
         after = Opens s;
+        idle = refl;
         turn_is = ap (new_session setting before reading) matches
             ∙ ap (λ (r : Reply). at_once r (Opens s)) (sym (reply_is ∙ ap success (value_is ∙ ap (session_value setting) is)));
         new_is = ap (λ (xs : List Session). let t : State = record { next = next + 1; sessions = xs } in t) (new_is ∙ ap (λ (t : Session). old ++ t ∷ []) is);
       }
-
-all_one : (P : Session → Type 0) (s : Session) → P s → All P (s ∷ [])
-all_one P s p zero d h = p
-all_one P s p (suc k) d h = absurd (omega arith)
-
-pub all_more : (P : Session → Type 0) (old new : List Session) (s : Session) → new ≡ old ++ s ∷ [] → P s → All P old → All P new
-all_more P old new s e p all = let Q : List Session → Type 0 = All P in subst Q (sym e) (All-append P old (s ∷ []) all (all_one P s p))

@@ -1,49 +1,98 @@
 -- A command of the session at a place.
-use Rattle.std.proofs.Common.{◌≡◌, ◌∙◌, ◌<◌, ℕ, suc, List, Option, Some, None, length, take, drop, get_or, slice_get, slice_set, ap, sym, subst, refl}
+use Rattle.std.proofs.Common.{◌≡◌, ◌∙◌, ◌<◌, ℕ, suc, List, Option, Some, None, length, take, drop, slice_get, slice_set, ap, sym, subst, refl, arith}
 use Rattle.std.specs.List.{All, remove}
 use Rattle.std.proofs.lemmas.List.Elements.{All-append, All-take, All-drop}
-use Rattle.std.proofs.lemmas.Option.{slice_get_read}
+use Rattle.std.proofs.lemmas.List.{set-set, get_or-set_same, length-set}
+use Rattle.std.proofs.lemmas.Option.{slice_get-get_or}
 use Rattle.endpoints.specs.declared.command.Command.{Command}
 use Rattle.endpoints.specs.declared.command.Command.TheVariants.{DeleteSession}
 use Rattle.wd_json.specs.declared.value.Json.TheVariants.{Null}
 use Rattle.remote_end.specs.declared.order.Order.{Order}
 use Rattle.remote_end.specs.declared.reply.Reply.{Reply}
 use Rattle.remote_end.specs.declared.session.Session.{Session}
+use Rattle.remote_end.specs.declared.step.Step.{Step as Outcome}
+use Rattle.remote_end.specs.declared.step.Step.TheVariants.{Reply as Replied, Wait}
+use Rattle.remote_end.specs.Carried.{ComesTo}
+use Rattle.remote_end.specs.Waits.{IsPlanOf}
+use Rattle.remote_end.proofs.NumberLemmas.{numbered_at}
+use Rattle.remote_end.proofs.StepLemmas.{ends_at_once, comes_of}
 use Rattle.remote_end.specs.Setting.{Setting}
 use Rattle.remote_end.specs.Advance.{Advanced}
 use Rattle.remote_end.specs.Moments.{start_of}
-use Rattle.remote_end.specs.State.{State, IsWhole, After, Same, Leaves, Ends, Opens, own_place, at_place, session_named, set_at, without_at, changed}
-use Rattle.remote_end.specs.Plan.{Turn, at_once}
+use Rattle.remote_end.specs.State.{State, IsWhole, Rise, place_numbered, After, Same, Leaves, Ends, Opens, own_place, at_place, session_named, set_at, without_at, changed}
+use Rattle.remote_end.specs.Plan.{Plan, Done, plan_at_once, at_once}
 use Rattle.remote_end.specs.Replies.{success}
 use Rattle.remote_end.specs.Rows.{IsTurnIn, turn_in, turn_alone}
-use Rattle.remote_end.specs.Step.{AreLeft, RunsAt, EndsWith, ActsAt, IsTurnOf}
+use Rattle.remote_end.specs.Step.{GoesOn, NumberIs, IsNamed, AreLeft, RunsAt, EndsWith, ActsAt, IsTurnOf}
 
 abbrev pub with_sessions : State → List Session → State
 with_sessions old sessions = record { next = old.next; sessions = sessions }
 
-module _ (order : Order) (reading : ℕ) (old : List Session) (place : ℕ) (session : Session) (reply : Reply) (within : place < length old) (is : session ≡ get_or old place session)
+pub some_session : (a b : Session) → Some a ≡ Some b → a ≡ b
+some_session a b e = cc
+
+pub here_set : (sessions : List Session) (place : ℕ) (s : Session) → place < length sessions → slice_get (slice_set sessions place s) place ≡ Some s
+here_set sessions place s within = slice_get-get_or (slice_set sessions place s) place s (let l = length-set sessions place s in omega (arith, l, within)) ∙ ap (λ (t : Session). Some t) (get_or-set_same sessions place s s within)
+
+pub set_again : (sessions : List Session) (place : ℕ) (s t : Session) → slice_set (slice_set sessions place s) place t ≡ slice_set sessions place t
+set_again sessions place s t = set-set sessions place s t
+
+number_of : (IsPlan : Plan → Type 0) (r : ℕ) (s left : Session) (outcome : Outcome) → ComesTo IsPlan r outcome (Leaves left) → left.number ≡ s.number → NumberIs outcome s
+number_of IsPlan r s left (Replied reply) ends n = tt
+number_of IsPlan r s left (Wait number until) (session, after_is, waits) n = let same : left ≡ session = cc in waits.number_is ∙ ap (λ (t : Session). t.number) (sym same) ∙ n
+
+module _ (order : Order) (reading : ℕ) (old : List Session) (place : ℕ) (session : Session) (here : slice_get old place ≡ Some session)
     (begun : Session) (advanced : Advanced session (start_of (Some session) reading) begun) where
-  here : slice_get old place ≡ Some session
-  here = slice_get_read old (length old) place session refl within is
+  abbrev IsPlan : Plan → Type 0
+  IsPlan plan = IsTurnIn order begun order.route.command (Done plan)
 
   -- it ends
-  pub ends_here : (new : List Session) → order.route.command ≡ DeleteSession → reply ≡ success Null → new ≡ remove old place → RunsAt order reading old place new reply
+  pub ends_here : (new : List Session) (reply : Reply) → order.route.command ≡ DeleteSession → reply ≡ success Null → new ≡ remove old place → RunsAt order reading old place new (Replied reply)
   unfolding turn_in IsTurnIn
-  ends_here new deletes reply_is new_is = record {
+  ends_here new reply deletes reply_is new_is = record {
     session = session;
     here = here;
     begun = begun;
     advanced = advanced;
     after = Ends;
-    turn_is =
-        let P : Command → Type 0 = λ command. IsTurnIn order begun command (at_once reply Ends) in
-        subst P (sym deletes) (ap (λ (r : Reply). at_once r Ends) reply_is);
+    comes = ends_at_once IsPlan (start_of (Some session) reading) reply Ends tt
+        (let P : Command → Type 0 = λ command. IsTurnIn order begun command (at_once reply Ends) in
+        subst P (sym deletes) (ap (λ (r : Reply). at_once r Ends) reply_is));
+    number = tt;
     left = new_is;
   }
 
-  -- it stays
-  pub stays_here : (left : Session) → IsTurnIn order begun order.route.command (at_once reply (Leaves left)) → RunsAt order reading old place (slice_set old place left) reply
-  stays_here left turn = record { session = session; here = here; begun = begun; advanced = advanced; after = Leaves left; turn_is = turn; left = refl }
+  -- it has its reply at once
+  pub stays_here : (left : Session) (reply : Reply) → left.waiting ≡ None → IsPlan (plan_at_once reply (Leaves left)) → RunsAt order reading old place (slice_set old place left) (Replied reply)
+  stays_here left reply idle turn = record {
+    session = session;
+    here = here;
+    begun = begun;
+    advanced = advanced;
+    after = Leaves left;
+    comes = ends_at_once IsPlan (start_of (Some session) reading) reply (Leaves left) idle turn;
+    number = tt;
+    left = refl;
+  }
+
+  -- it waits at its start, and is carried to it
+  pub waits_here : (waiting : Session) (new : List Session) (outcome : Outcome) → place < length old → waiting.number ≡ session.number → ((plan : Plan) → IsPlanOf waiting plan → IsPlan plan)
+      → GoesOn (slice_set old place waiting) place (start_of (Some session) reading) new outcome → RunsAt order reading old place new outcome
+  waits_here waiting new outcome within number plans goes = record {
+    session = session;
+    here = here;
+    begun = begun;
+    advanced = advanced;
+    after = Leaves goes.left;
+    comes =
+        let same : goes.session ≡ waiting = some_session goes.session waiting (sym goes.here ∙ here_set old place waiting within) in
+        let P : Session → Type 0 = λ s. (plan : Plan) → IsPlanOf s plan → IsPlan plan in
+        comes_of (IsPlanOf goes.session) IsPlan (subst P (sym same) plans) (start_of (Some session) reading) outcome (Leaves goes.left) goes.comes;
+    number =
+        let same : goes.session ≡ waiting = some_session goes.session waiting (sym goes.here ∙ here_set old place waiting within) in
+        number_of (IsPlanOf goes.session) (start_of (Some session) reading) session goes.left outcome goes.comes (goes.number ∙ ap (λ (s : Session). s.number) same ∙ number);
+    left = goes.new_is ∙ set_again old place waiting goes.left;
+  }
 
 pub all_left : (old new : List Session) (place : ℕ) → new ≡ remove old place → All IsWhole old → All IsWhole new
 all_left old new place is all =
@@ -63,23 +112,34 @@ set_of named old place new (Leaves s) is left = ap (with_sessions old) (left ∙
 set_of named old place new Ends is left = ap (with_sessions old) (left ∙ ap (λ (o : Option ℕ). without_at old.sessions o) (sym is))
 set_of named old place new (Opens s) is left = absurd left
 
-pub acts_in : (setting : Setting) (order : Order) (reading : ℕ) (old : State) (place : ℕ) (new : List Session) (reply : Reply)
-    → own_place order.route.session old.sessions ≡ Some place → RunsAt order reading old.sessions place new reply
-    → ActsAt setting old order reading (with_sessions old new) reply
-acts_in setting order reading old place new reply is runs =
-    let turn : Turn = at_once reply runs.after in
-    let P : Option Session → Type 0 = λ s. IsTurnOf setting old order reading s turn in
+pub acts_in : (setting : Setting) (order : Order) (reading : ℕ) (old : State) (place : ℕ) (new : List Session) (outcome : Outcome)
+    → Rise 1 old.sessions old.next → own_place order.route.session old.sessions ≡ Some place → RunsAt order reading old.sessions place new outcome
+    → ActsAt setting old order reading (with_sessions old new) outcome
+acts_in setting order reading old place new outcome rise is runs =
+    let named : session_named order.route.session old.sessions ≡ Some runs.session = named_at order.route.session old.sessions place runs.session is runs.here in
+    let P : Option Session → Type 0 = λ s. ComesTo (λ plan. IsTurnOf setting old order reading s (Done plan)) (start_of s reading) outcome runs.after in
     record {
-      turn = turn;
-      turn_is = subst P (sym (named_at order.route.session old.sessions place runs.session is runs.here)) (runs.begun, runs.advanced, runs.turn_is);
-      ends = record { after = runs.after; turn_is = refl; new_is = set_of order.route.session old place new runs.after is runs.left };
+      after = runs.after;
+      comes = subst P (sym named) (comes_of (λ plan. IsTurnIn order runs.begun order.route.command (Done plan)) (λ plan. IsTurnOf setting old order reading (Some runs.session) (Done plan))
+          (λ plan turn. (runs.begun, runs.advanced, turn)) (start_of (Some runs.session) reading) outcome runs.after runs.comes);
+      named = named_by outcome runs.number;
+      new_is = set_of order.route.session old place new runs.after is runs.left;
     }
+  where
+    named_by : (o : Outcome) → NumberIs o runs.session → IsNamed o order.route.session old.sessions
+    named_by (Replied reply) n = tt
+    named_by (Wait number until) n =
+        (place, is, ap (λ (k : ℕ). place_numbered k old.sessions) n ∙ numbered_at 1 old.sessions old.next place runs.session rise runs.here)
 
 pub acts_alone : (setting : Setting) (order : Order) (reading : ℕ) (old new : State) (reply : Reply)
     → own_place order.route.session old.sessions ≡ None
     → EndsWith (turn_alone setting old order.parameters reading order.route.command) old order.route.session new reply
-    → ActsAt setting old order reading new reply
+    → ActsAt setting old order reading new (Replied reply)
 acts_alone setting order reading old new reply is ends =
-    let turn : Turn = turn_alone setting old order.parameters reading order.route.command in
-    let P : Option Session → Type 0 = λ s. IsTurnOf setting old order reading s turn in
-    record { turn = turn; turn_is = subst P (sym (ap (at_place old.sessions) is)) refl; ends = ends }
+    let P : Option Session → Type 0 = λ s. ComesTo (λ plan. IsTurnOf setting old order reading s (Done plan)) (start_of s reading) (Replied reply) ends.after in
+    record {
+      after = ends.after;
+      comes = subst P (sym (ap (at_place old.sessions) is)) (ends_at_once (λ plan. IsTurnOf setting old order reading None (Done plan)) (start_of None reading) reply ends.after ends.idle (sym ends.turn_is));
+      named = tt;
+      new_is = ends.new_is;
+    }

@@ -1,9 +1,8 @@
--- What the six finds answer (Recommendation, section 12; WebDriver Level 2 for shadow roots).
-use Rattle.std.specs.Prelude.{◌≡◌, ℕ, List, [], Option, Some, None, Result, Ok, Err, codes, if◌then◌else◌}
+-- What the six finds answer, and when (Recommendation, section 12; WebDriver Level 2 for shadow roots).
+use Rattle.std.specs.Prelude.{◌≡◌, ℕ, List, [], ◌∷◌, Option, Some, None, Result, Ok, Err, codes, if◌then◌else◌}
 use Rattle.std.specs.Option.{unwrap_or}
 use Rattle.std.specs.Str.{bytes_eq, chars}
-use Rattle.page_tree.specs.Rows.{Rows}
-use Rattle.interaction.specs.Found.{Finds, Refuses}
+use Rattle.interaction.specs.Found.{Refuses}
 use Rattle.interaction.specs.declared.by.By.{By}
 use Rattle.interaction.specs.declared.by.By.TheVariants.{Css, Link, PartialLink, Tag}
 use Rattle.references.specs.Handed.{Handed, handed}
@@ -13,8 +12,7 @@ use Rattle.references.specs.declared.kind.Kind.TheVariants.{Element}
 use Rattle.references.specs.declared.name.NodeName.{NodeName}
 use Rattle.selectors.specs.Named.{first_of_list}
 use Rattle.selectors.specs.declared.fault.SelFault.TheVariants.{Invalid}
-use Rattle.selectors.specs.declared.selector.Scope.{Scope}
-use Rattle.selectors.specs.declared.selector.Scope.TheVariants.{Under}
+use Rattle.waits.specs.Moments.{plus}
 use Rattle.wd_errors.specs.declared.code.Code.{Code}
 use Rattle.wd_errors.specs.declared.code.Code.TheVariants.{InvalidSelector, NoSuchElement, UnknownError}
 use Rattle.wd_json.specs.declared.value.Json.{Json}
@@ -22,9 +20,11 @@ use Rattle.wd_json.specs.declared.value.Json.TheVariants.{List as ListValue}
 use Rattle.remote_end.specs.declared.finds.Wanted.{Wanted}
 use Rattle.remote_end.specs.declared.finds.Wanted.TheVariants.{First, All}
 use Rattle.remote_end.specs.declared.session.Session.{Session}
+use Rattle.remote_end.specs.declared.waiting.FindWait.{FindWait}
 use Rattle.remote_end.specs.State.{Leaves}
-use Rattle.remote_end.specs.Plan.{Turn, at_once}
+use Rattle.remote_end.specs.Plan.{Stage, Plan, Turn, Done, at_once}
 use Rattle.remote_end.specs.Built.{text_at}
+use Rattle.remote_end.specs.FindSpans.{FindEnds, Passes}
 use Rattle.remote_end.specs.Elements.{current_document}
 use Rattle.remote_end.specs.Handing.{with_reference}
 use Rattle.remote_end.specs.Replies.{success, failure}
@@ -46,11 +46,6 @@ strategy_in parameters = strategy_of (unwrap_or (text_at (codes "using") paramet
 abbrev pub value_in : Json → List ℕ
 value_in parameters = unwrap_or (text_at (codes "value") parameters) []
 
--- The nodes that are found by a text in a scope. There are none where it is to be a selector and is none.
-abbrev pub AreFound : Rows → Scope → By → List ℕ → Option (List ℕ) → Type 0
-AreFound rows scope by text None = Refuses by text Invalid
-AreFound rows scope by text (Some nodes) = Finds rows scope by text nodes
-
 -- ---- what it answers
 
 -- the reference of the first node
@@ -67,17 +62,36 @@ abbrev pub nodes_turn : Wanted → Session → List ℕ → Turn
 nodes_turn First s nodes = first_turn s (first_of_list nodes)
 nodes_turn All s nodes = with_references s (handed_all s.known Element current_document nodes)
 
-abbrev pub found_turn : Wanted → Session → Option (List ℕ) → Turn
-found_turn wanted s None = at_once (failure InvalidSelector) (Leaves s)
-found_turn wanted s (Some nodes) = nodes_turn wanted s nodes
+-- a plan with next moments says how the session stands before the first
+abbrev pub BegunIs : List Stage → Option Session → Session → Type 0
+BegunIs [] begun s = begun ≡ None
+BegunIs (stage ∷ stages) begun s = begun ≡ Some s
 
--- a find in a scope, once, at the command's start
-pub record IsFind (wanted : Wanted) (s : Session) (scope : Scope) (parameters : Json) (turn : Turn) : Type 0 where
-  pub found : Option (List ℕ)
-  pub are_found : AreFound s.page.rows scope (strategy_in parameters) (chars (value_in parameters)) found
-  pub turn_is : turn ≡ found_turn wanted s found
+-- the plan of a find that a session begins: what it answers at its end, and its next moments until then
+pub record FindPlan (find : FindWait) (s : Session) (plan : Plan) : Type 0 where
+  pub end : Session
+  pub nodes : List ℕ
+  pub begun : BegunIs plan.stages plan.begun s
+  pub ends : FindEnds find s end nodes
+  pub passes : Passes find.until s plan.stages end
+  pub answers : nodes_turn find.wanted end nodes ≡ at_once plan.reply plan.after
+
+-- the find that a command asks for, below a node or in the document, for as long as the implicit timeout
+abbrev pub find_of : Wanted → Session → Option NodeName → Json → FindWait
+find_of wanted s start parameters = record {
+  wanted = wanted;
+  start = start;
+  by = strategy_in parameters;
+  text = chars (value_in parameters);
+  until = plus s.at s.matched.timeouts.implicit;
+}
+
+-- It is refused at once where its text is to be a selector and is none.
+pub data IsFind (find : FindWait) (s : Session) (turn : Turn) : Type 0 where
+  Refused : Refuses find.by find.text Invalid → turn ≡ at_once (failure InvalidSelector) (Leaves s) → IsFind find s turn
+  Looks : (plan : Plan) → FindPlan find s plan → turn ≡ Done plan → IsFind find s turn
 
 -- a find below a node that was looked up
 abbrev pub IsFindFrom : Wanted → Session → Result NodeName Code → Json → Turn → Type 0
 IsFindFrom wanted s (Err code) parameters turn = turn ≡ at_once (failure code) (Leaves s)
-IsFindFrom wanted s (Ok name) parameters turn = IsFind wanted s (Under name.node) parameters turn
+IsFindFrom wanted s (Ok name) parameters turn = IsFind (find_of wanted s (Some name) parameters) s turn

@@ -9,7 +9,12 @@ pub mod Built
 pub mod Meaning
 pub mod Elements
 pub mod Handing
+pub mod FindSpans
 pub mod Finds
+pub mod Waits
+pub mod Naming
+pub mod Carried
+pub mod Resumed
 pub mod Titles
 pub mod Opening
 pub mod Rows

@@ -1,5 +1,5 @@
 -- The rows of the table of commands: what each command does.
-use Rattle.std.specs.Prelude.{◌≡◌, ℕ, List, [], Option, Some, None, Result, Ok, Err, codes}
+use Rattle.std.specs.Prelude.{◌≡◌, ℕ, List, [], Option, Some, None, Result, Ok, Err}
 use Rattle.std.specs.Option.{unwrap_or, option_map_or}
 use Rattle.std.specs.Str.{encode_utf8_all}
 use Rattle.capabilities.specs.Processed.{processed}
@@ -25,10 +25,9 @@ use Rattle.remote_end.specs.declared.session.Session.{Session}
 use Rattle.remote_end.specs.Setting.{Setting}
 use Rattle.remote_end.specs.State.{State, is_full, Same, Leaves, Ends, Opens}
 use Rattle.remote_end.specs.Plan.{Turn, at_once}
-use Rattle.selectors.specs.declared.selector.Scope.TheVariants.{Document}
 use Rattle.remote_end.specs.declared.finds.Wanted.TheVariants.{First, All}
 use Rattle.remote_end.specs.Elements.{looked_up, current_document}
-use Rattle.remote_end.specs.Finds.{IsFind, IsFindFrom}
+use Rattle.remote_end.specs.Finds.{find_of, IsFind, IsFindFrom}
 use Rattle.remote_end.specs.Handing.{with_reference}
 use Rattle.remote_end.specs.Opening.{opened, session_value, fault_code}
 use Rattle.remote_end.specs.Replies.{success, failure}
@@ -112,8 +111,8 @@ turn_in order s command = at_once (failure UnsupportedOperation) (Leaves s)
 
 -- What a command of a session does: a find what it finds by the grammar of selectors, and any other one thing.
 unfoldable pub IsTurnIn : Order → Session → Command → Turn → Type 0
-IsTurnIn order s FindElement turn = IsFind First s Document order.parameters turn
-IsTurnIn order s FindElements turn = IsFind All s Document order.parameters turn
+IsTurnIn order s FindElement turn = IsFind (find_of First s None order.parameters) s turn
+IsTurnIn order s FindElements turn = IsFind (find_of All s None order.parameters) s turn
 IsTurnIn order s FindElementFromElement turn = IsFindFrom First s (element_in order s) order.parameters turn
 IsTurnIn order s FindElementsFromElement turn = IsFindFrom All s (element_in order s) order.parameters turn
 IsTurnIn order s FindElementFromShadowRoot turn = IsFindFrom First s (shadow_in order s) order.parameters turn

@@ -1,5 +1,5 @@
 -- What the command machine keeps between requests, and what a command leaves of it.
-use Rattle.std.specs.Prelude.{◌≡◌, ◌≤◌, ℕ, ◌+◌, ◌^◌, ◌||◌, not, nat_lt, List, [], ◌∷◌, ◌++◌, Bool, false, Option, Some, None, length, slice_get, slice_set}
+use Rattle.std.specs.Prelude.{◌≡◌, ◌≤◌, ℕ, ◌+◌, ◌^◌, ◌||◌, ◌==◌, not, nat_lt, List, [], ◌∷◌, ◌++◌, Bool, false, Option, Some, None, length, slice_get, slice_set}
 use Rattle.std.specs.List.{position, remove}
 use Rattle.std.specs.Str.{encode_utf8_all}
 use Rattle.capabilities.specs.Timeouts.{AreInRange}
@@ -48,6 +48,13 @@ at_place sessions (Some i) = slice_get sessions i
 abbrev pub session_named : Option (List ℕ) → List Session → Option Session
 session_named text sessions = at_place sessions (own_place text sessions)
 
+-- where the open session with that number stands
+abbrev pub place_numbered : ℕ → List Session → Option ℕ
+place_numbered number sessions = position (λ (s : Session). s.number == number) sessions
+
+abbrev pub session_numbered : ℕ → List Session → Option Session
+session_numbered number sessions = at_place sessions (place_numbered number sessions)
+
 -- What a command leaves of sessions: none is touched, its own stands so, its own has ended, or one more is
 -- open. So a command changes no session but its own.
 pub data After : Type 0 where
@@ -73,6 +80,11 @@ changed state own (Opens s) = record { next = state.next + 1; sessions = state.s
 
 -- ---- for private clauses
 
+-- the numbers of the sessions rise from one number, and stay below another
+abbrev pub Rise : ℕ → List Session → ℕ → Type 0
+Rise low [] next = low ≤ next
+Rise low (s ∷ sessions) next = (low ≤ s.number) × Rise (s.number + 1) sessions next
+
 -- no call on what it keeps has wanted memory, its timeouts are at most 2^53 - 1, it has reached no moment
 -- after 2^62, and it keeps the page's address
 pub record IsWhole (s : Session) : Type 0 where
@@ -81,3 +93,8 @@ pub record IsWhole (s : Session) : Type 0 where
   pub timeouts : AreInRange s.matched.timeouts
   pub moment : s.at ≤ last_moment
   pub address : s.page.address ≡ s.address
+
+-- what was done in a session left its number, and what waits in it
+pub record IsSameBut (old new : Session) : Type 0 where
+  pub number : new.number ≡ old.number
+  pub waiting : new.waiting ≡ old.waiting

@@ -1,19 +1,24 @@
 -- One step of the command machine.
-use Rattle.std.specs.Prelude.{◌≡◌, ◌≤◌, ℕ, max, List, [], ◌∷◌, ◌++◌, Option, Some, None, Result, Ok, Err, slice_get, slice_set}
+use Rattle.std.specs.Prelude.{◌≡◌, ◌≤◌, ◌<◌, ℕ, max, List, [], ◌∷◌, ◌++◌, Option, Some, None, Result, Ok, Err, slice_get, slice_set}
 use Rattle.std.specs.List.{remove}
 use Rattle.wd_errors.specs.declared.code.Code.{Code}
 use Rattle.wd_http.specs.declared.request.Request.{Request}
 use Rattle.remote_end.specs.declared.reply.Reply.{Reply}
 use Rattle.remote_end.specs.declared.order.Order.{Order}
 use Rattle.remote_end.specs.declared.session.Session.{Session}
+use Rattle.remote_end.specs.declared.step.Step.{Step as Outcome}
+use Rattle.remote_end.specs.declared.step.Step.TheVariants.{Reply as Replied, Wait}
 use Rattle.remote_end.specs.Setting.{Setting}
-use Rattle.remote_end.specs.State.{State, After, Same, Leaves, Ends, Opens, session_named, changed}
-use Rattle.remote_end.specs.Plan.{Stage, Plan, Turn, Done, Asks, at_once}
+use Rattle.remote_end.specs.State.{State, After, Same, Leaves, Ends, Opens, own_place, place_numbered, session_named, changed}
+use Rattle.remote_end.specs.Plan.{Stage, Plan, Turn, Done, Asks, plan_at_once, at_once}
 use Rattle.remote_end.specs.Moments.{start_of, next_after}
 use Rattle.remote_end.specs.Advance.{Advanced}
 use Rattle.remote_end.specs.Replies.{failure}
-use Rattle.remote_end.specs.Meaning.{Means}
+use Rattle.remote_end.specs.Meaning.{Means, target_bytes}
+use Rattle.remote_end.specs.Naming.{session_of}
 use Rattle.remote_end.specs.Rows.{turn_alone, IsTurnIn}
+use Rattle.remote_end.specs.Waits.{IsPlanOf, next_moment, busy_of, left_of}
+use Rattle.remote_end.specs.Carried.{LeavesIdle, ComesTo}
 
 -- A call of the outside: a reading of the clock, the answer to a script, or a rest that asked for a moment
 -- and what the clock then read.
@@ -73,41 +78,89 @@ pub record Step (setting : Setting) (old : State) (request : Request) (calls : L
 unfoldable pub Steps : Setting → State → Request → List Call → Reply → State → Type 0
 Steps setting old request calls reply new = Step setting old request calls reply new
 
+-- ---- a command that is begun
+
+-- it waits in the session that a request names, which has that number
+abbrev pub IsNamed : Outcome → Option (List ℕ) → List Session → Type 0
+IsNamed (Replied reply) named sessions = Unit {0}
+IsNamed (Wait number until) named sessions = (place : ℕ) × (own_place named sessions ≡ Some place) × (place_numbered number sessions ≡ Some place)
+
+-- a request is begun with a reading: its command is carried to its start, and has ended there or waits
+pub record Begins (setting : Setting) (old : State) (request : Request) (reading : ℕ) (new : State) (outcome : Outcome) : Type 0 where
+  pub meaning : Result Order Code
+  pub means : Means old request meaning
+  pub after : After
+  pub comes : ComesTo (λ plan. IsTurnFor setting old meaning reading (Done plan)) (start_of (session_named (own meaning) old.sessions) reading) outcome after
+  pub named : IsNamed outcome (own meaning) old.sessions
+  pub new_is : new ≡ changed old (own meaning) after
+
+-- the command that waits in the session at that place is carried to a reading; no other session changes
+pub record GoesOn (old : List Session) (place reading : ℕ) (new : List Session) (outcome : Outcome) : Type 0 where
+  pub session : Session
+  pub here : slice_get old place ≡ Some session
+  pub left : Session
+  pub comes : ComesTo (IsPlanOf session) reading outcome (Leaves left)
+  pub number : left.number ≡ session.number
+  -- a reading that reaches the next moment leaves it fewer
+  pub fewer : (until : ℕ) → next_moment session ≡ Some until → until ≤ reading → left_of left < left_of session
+  pub new_is : new ≡ slice_set old place left
+
+-- the command that waits in the session with that number is resumed with a reading
+pub record Resumes (old : State) (number reading : ℕ) (new : State) (outcome : Outcome) : Type 0 where
+  pub place : ℕ
+  pub place_is : place_numbered number old.sessions ≡ Some place
+  pub goes : GoesOn old.sessions place reading new.sessions outcome
+  pub next : new.next ≡ old.next
+
+-- no command waits in the session that a request's path names
+abbrev pub IsFree : State → Request → Type 0
+IsFree state request = (number : ℕ) → session_of (target_bytes request) state.sessions ≡ Some number → busy_of number state.sessions ≡ None
+
 -- ---- for private clauses
+
+-- a command, begun with a reading, comes to this
+pub record ActsAt (setting : Setting) (old : State) (order : Order) (reading : ℕ) (new : State) (outcome : Outcome) : Type 0 where
+  pub after : After
+  pub comes : ComesTo (λ plan. IsTurnOf setting old order reading (session_named order.route.session old.sessions) (Done plan)) (start_of (session_named order.route.session old.sessions) reading) outcome after
+  pub named : IsNamed outcome order.route.session old.sessions
+  pub new_is : new ≡ changed old order.route.session after
 
 -- a turn that ends at once, with this reply, and what it leaves of sessions
 pub record EndsWith (turn : Turn) (old : State) (named : Option (List ℕ)) (new : State) (reply : Reply) : Type 0 where
   pub after : After
   pub turn_is : turn ≡ at_once reply after
+  pub idle : LeavesIdle after
   pub new_is : new ≡ changed old named after
 
--- the part of a step that makes one call: the request, begun with a reading, has this reply at once
-pub record RepliesAt (setting : Setting) (old : State) (request : Request) (reading : ℕ) (new : State) (reply : Reply) : Type 0 where
-  pub meaning : Result Order Code
-  pub means : Means old request meaning
-  pub turn : Turn
-  pub turn_is : IsTurnFor setting old meaning reading turn
-  pub ends : EndsWith turn old (own meaning) new reply
-
--- a command, begun with a reading, ends at once
-pub record ActsAt (setting : Setting) (old : State) (order : Order) (reading : ℕ) (new : State) (reply : Reply) : Type 0 where
-  pub turn : Turn
-  pub turn_is : IsTurnOf setting old order reading (session_named order.route.session old.sessions) turn
-  pub ends : EndsWith turn old order.route.session new reply
-
--- the open sessions after a command of the one at that place
+-- The open sessions after a command of the one at that place.
 abbrev pub AreLeft : List Session → ℕ → List Session → After → Type 0
 AreLeft old place new Same = new ≡ old
 AreLeft old place new (Leaves s) = new ≡ slice_set old place s
 AreLeft old place new Ends = new ≡ remove old place
 AreLeft old place new (Opens s) = ⊥
 
--- a command of the session at that place ends at once
-pub record RunsAt (order : Order) (reading : ℕ) (old : List Session) (place : ℕ) (new : List Session) (reply : Reply) : Type 0 where
+abbrev pub NumberIs : Outcome → Session → Type 0
+NumberIs (Replied reply) s = Unit {0}
+NumberIs (Wait number until) s = number ≡ s.number
+
+-- a command of the session at that place comes to this
+pub record RunsAt (order : Order) (reading : ℕ) (old : List Session) (place : ℕ) (new : List Session) (outcome : Outcome) : Type 0 where
   pub session : Session
   pub here : slice_get old place ≡ Some session
   pub begun : Session
   pub advanced : Advanced session (start_of (Some session) reading) begun
   pub after : After
-  pub turn_is : IsTurnIn order begun order.route.command (at_once reply after)
+  pub comes : ComesTo (λ plan. IsTurnIn order begun order.route.command (Done plan)) (start_of (Some session) reading) outcome after
+  pub number : NumberIs outcome session
   pub left : AreLeft old place new after
+
+-- a row has this reply at once, or its command waits in its session, with one of these plans
+abbrev pub RowComes : (Plan → Type 0) → Option Reply → Session → Type 0
+RowComes IsPlan (Some reply) new = IsPlan (plan_at_once reply (Leaves new))
+RowComes IsPlan None new = (plan : Plan) → IsPlanOf new plan → IsPlan plan
+
+-- the command of a session, begun at a moment, has this reply at once or waits
+pub record BeginsIn (order : Order) (start : ℕ) (old : Session) (reply : Option Reply) (new : Session) : Type 0 where
+  pub begun : Session
+  pub advanced : Advanced old start begun
+  pub comes : RowComes (λ plan. IsTurnIn order begun order.route.command (Done plan)) reply new

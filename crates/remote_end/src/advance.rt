@@ -47,7 +47,7 @@ fn run_timers(page: &mut Page, reached: u64, to: u64) -> Result<(), Memory>
 
 /// Advances a session to a moment, and runs its page's timers that are due by then. `Memory` where there is
 /// no memory for what they do. It costs these timers and their effects.
-fn advance(session: &mut Session, to: u64) -> Result<(), Memory>
+pub(crate) fn advance(session: &mut Session, to: u64) -> Result<(), Memory>
     requires whole { IsWhole session.old }
     requires onwards { session.old.at ≤ to }
     requires moment { to ≤ last_moment }
@@ -59,12 +59,11 @@ fn advance(session: &mut Session, to: u64) -> Result<(), Memory>
     Ok(())
 }
 
-/// Advances a session to the start of a command that is begun with a reading.
-pub(crate) fn start(session: &mut Session, reading: u64) -> Result<(), Memory>
-    requires { IsWhole session.old }
-    ensures advanced { OnOk result (Advanced session.old (start_of (Some session.old) reading) session.new) }
-    ensures whole { OnOk result (IsWhole session.new) }
+/// The moment at which a command of a session starts that is begun with a reading.
+pub(crate) fn start_of(session: &Session, reading: u64) -> u64
+    ensures start { result ≡ start_of (Some session.now) reading }
+    ensures within { result ≤ last_moment }
+    ensures onwards { session.now.at ≤ last_moment → session.now.at ≤ result }
 {
-    let start = session.at.max(reading).min(LAST_MOMENT);
-    advance(session, start)
+    session.at.max(reading).min(LAST_MOMENT)
 }

@@ -1,30 +1,36 @@
-ghost use Rattle.std.specs.Prelude.{◌≡◌, true, IsTrue, IfOk, OnOk};
-ghost use Rattle.page_tree.specs.Rows.{count};
+ghost use Rattle.std.specs.Prelude.{◌≡◌, ◌≤◌, true, IsTrue, IfOk, OnOk};
 ghost use Rattle.references.specs.Handed.{is_node_kind};
 ghost use Rattle.selectors.specs.Named.{first_of_list};
-ghost use Rattle.selectors.specs.Scopes.{IsWithin};
+ghost use Rattle.waits.specs.Moments.{last_moment};
 ghost use Rattle.wd_http.specs.Sent.{is_status};
 ghost use Rattle.remote_end.specs.Elements.{looked_up};
-ghost use Rattle.remote_end.specs.Finds.{strategy_of, strategy_in, value_in, first_turn, nodes_turn, IsFind, IsFindFrom};
-ghost use Rattle.remote_end.specs.Plan.{at_once};
-ghost use Rattle.remote_end.specs.State.{Leaves, IsWhole};
+ghost use Rattle.remote_end.specs.Finds.{strategy_of, strategy_in, value_in, first_turn, nodes_turn, find_of, IsFind, IsFindFrom};
+ghost use Rattle.remote_end.specs.Advance.{NoneDue};
+ghost use Rattle.remote_end.specs.FindSpans.{StartsIn};
+ghost use Rattle.remote_end.specs.Plan.{Done, at_once};
+ghost use Rattle.remote_end.specs.Step.{RowComes};
+ghost use Rattle.remote_end.specs.Waits.{RowLeaves};
+ghost use Rattle.remote_end.specs.State.{Leaves, IsWhole, IsSameBut};
 ghost use Rattle.remote_end.specs.Values.{reference_values};
 
 use crate::built::text_at;
 use crate::handing::{handed_reply, reference_value};
+use crate::looks::{goes_on, look};
 use crate::lookups::looked_up;
 use crate::reply::{Reply, failure, success};
 use crate::session::Session;
-use interaction::{By, find};
-use references::{IdFault, IdList, Kind, lists_are_handed_out_whole};
-use selectors::{Scope, SelFault};
+use crate::waiting::{FindWait, Waiting};
+use interaction::By;
+use references::{IdFault, IdList, Kind, NodeName, lists_are_handed_out_whole};
+use selectors::SelFault;
 use std::alloc::Global;
+use waits::plus;
 use wd_errors::Code;
-use wd_json::{Json, JsonList, Memory, NodeId, NodeList};
+use wd_json::{Json, JsonList, Memory, NodeId, NodeList, WdText};
 
 /// How many of the nodes that are found a find answers.
 #[derive(Clone, Copy)]
-pub(crate) enum Wanted {
+pub enum Wanted {
     /// The first; that there is none is an error.
     First,
     /// All, and there may be none.
@@ -80,6 +86,7 @@ fn first_reply(alloc: Global, session: &mut Session, nodes: &NodeList) -> Result
     requires { IsWhole session.old }
     ensures turn { IfOk result (λ reply. first_turn session.old (first_of_list nodes.now) ≡ at_once reply (Leaves session.new)) }
     ensures whole { OnOk result (IsWhole session.new) }
+    ensures kept { OnOk result (IsSameBut session.old session.new) }
     ensures status { IfOk result (λ reply. IsTrue (is_status reply.status)) }
 {
     match first_of(nodes) {
@@ -103,6 +110,7 @@ fn all_reply(alloc: Global, session: &mut Session, nodes: &NodeList) -> Result<R
     requires { IsWhole session.old }
     ensures turn { IfOk result (λ reply. nodes_turn Wanted.All session.old nodes.now ≡ at_once reply (Leaves session.new)) }
     ensures whole { OnOk result (IsWhole session.new) }
+    ensures kept { OnOk result (IsSameBut session.old session.new) }
     ensures status { IfOk result (λ reply. IsTrue (is_status reply.status)) }
 {
     session.known.are_issued();
@@ -115,7 +123,7 @@ fn all_reply(alloc: Global, session: &mut Session, nodes: &NodeList) -> Result<R
 }
 
 /// Answers the nodes that were found.
-fn nodes_reply(
+pub(crate) fn nodes_reply(
     alloc: Global,
     session: &mut Session,
     wanted: Wanted,
@@ -124,6 +132,7 @@ fn nodes_reply(
     requires { IsWhole session.old }
     ensures turn { IfOk result (λ reply. nodes_turn wanted session.old nodes.now ≡ at_once reply (Leaves session.new)) }
     ensures whole { OnOk result (IsWhole session.new) }
+    ensures kept { OnOk result (IsSameBut session.old session.new) }
     ensures status { IfOk result (λ reply. IsTrue (is_status reply.status)) }
 {
     match wanted {
@@ -132,32 +141,78 @@ fn nodes_reply(
     }
 }
 
-/// A find in a scope (Recommendation, section 12.1): `invalid selector` where the value is none.
+/// Begins a find: `invalid selector` where its text is to be a selector and is none; else it answers what it gives,
+/// or waits where it gives nothing and its span isn't over.
+fn begin_find(alloc: Global, session: &mut Session, find: FindWait) -> Result<Option<Reply>, Memory>
+    requires whole { IsWhole session.old }
+    requires idle { session.old.waiting ≡ None }
+    requires still { NoneDue session.old.page.pending session.old.at }
+    requires starts { StartsIn find.start session.old.page.rows }
+    requires onwards { session.old.at ≤ find.until }
+    requires within { find.until ≤ last_moment }
+    ensures comes { IfOk result (λ reply. RowComes (λ plan. IsFind find session.old (Done plan)) reply session.new) }
+    ensures leaves { IfOk result (λ reply. RowLeaves reply session.new) }
+    ensures kept { OnOk result (IsWhole session.new × (session.new.number ≡ session.old.number)) }
+{
+    match look(alloc, session.page.document(), &find) {
+        Ok(nodes) => {
+            if goes_on(&nodes, session.at, &find) {
+                session.waiting = Some(Waiting::Find(find));
+                Ok(None)
+            } else {
+                let reply = nodes_reply(alloc, session, find.wanted, &nodes)?;
+                Ok(Some(reply))
+            }
+        }
+        Err(SelFault::Invalid) => {
+            let reply = failure(alloc, Code::InvalidSelector)?;
+            Ok(Some(reply))
+        }
+        Err(SelFault::Memory) => Err(Memory),
+    }
+}
+
+/// The find that a command asks for, below a node or in the document.
+fn find_of(
+    alloc: Global,
+    session: &Session,
+    wanted: Wanted,
+    start: Option<NodeName>,
+    parameters: &Json,
+) -> Result<FindWait, Memory>
+    requires { session.now.at ≤ last_moment }
+    ensures find { IfOk result (λ find. find ≡ find_of wanted session.now start parameters.now) }
+    ensures within { IfOk result (λ find. find.until ≤ last_moment) }
+{
+    let text = WdText::of(alloc, value_in(parameters))?;
+    Ok(FindWait {
+        wanted,
+        start,
+        by: strategy_in(parameters),
+        text,
+        until: plus(session.at, session.matched.timeouts.implicit),
+    })
+}
+
+/// A find in the document (Recommendation, section 12.1).
 pub(crate) fn find_in(
     alloc: Global,
     session: &mut Session,
     wanted: Wanted,
-    scope: Scope,
+    start: Option<NodeName>,
     parameters: &Json,
-) -> Result<Reply, Memory>
+) -> Result<Option<Reply>, Memory>
     requires whole { IsWhole session.old }
-    requires scope_in { IsWithin session.old.page.rows scope }
-    ensures turn { IfOk result (λ reply. IsFind wanted session.old scope parameters.now (at_once reply (Leaves session.new))) }
-    ensures whole { OnOk result (IsWhole session.new) }
-    ensures status { IfOk result (λ reply. IsTrue (is_status reply.status)) }
+    requires idle { session.old.waiting ≡ None }
+    requires still { NoneDue session.old.page.pending session.old.at }
+    requires starts { StartsIn start session.old.page.rows }
+    ensures comes { IfOk result (λ reply. RowComes (λ plan. IsFind (find_of wanted session.old start parameters.now) session.old (Done plan)) reply session.new) }
+    ensures leaves { IfOk result (λ reply. RowLeaves reply session.new) }
+    ensures kept { OnOk result (IsWhole session.new × (session.new.number ≡ session.old.number)) }
 {
-    let page = session.page.document();
-    match find(
-        alloc,
-        page,
-        scope,
-        strategy_in(parameters),
-        value_in(parameters),
-    ) {
-        Ok(nodes) => Ok(nodes_reply(alloc, session, wanted, &nodes)?),
-        Err(SelFault::Invalid) => failure(alloc, Code::InvalidSelector),
-        Err(SelFault::Memory) => Err(Memory),
-    }
+    let find = find_of(alloc, session, wanted, start, parameters)?;
+    let reply = begin_find(alloc, session, find)?;
+    Ok(reply)
 }
 
 /// A find below an element or a shadow root, which is looked up first.
@@ -168,18 +223,23 @@ pub(crate) fn find_from(
     kind: Kind,
     item: &str,
     parameters: &Json,
-) -> Result<Reply, Memory>
+) -> Result<Option<Reply>, Memory>
     requires whole { IsWhole session.old }
+    requires idle { session.old.waiting ≡ None }
+    requires still { NoneDue session.old.page.pending session.old.at }
     requires node_kind { is_node_kind kind ≡ true }
-    ensures turn { IfOk result (λ reply. IsFindFrom wanted session.old (looked_up kind session.old item.now) parameters.now (at_once reply (Leaves session.new))) }
-    ensures whole { OnOk result (IsWhole session.new) }
-    ensures status { IfOk result (λ reply. IsTrue (is_status reply.status)) }
+    ensures comes { IfOk result (λ reply. RowComes (λ plan. IsFindFrom wanted session.old (looked_up kind session.old item.now) parameters.now (Done plan)) reply session.new) }
+    ensures leaves { IfOk result (λ reply. RowLeaves reply session.new) }
+    ensures kept { OnOk result (IsWhole session.new × (session.new.number ≡ session.old.number)) }
 {
     match looked_up(session, kind, item) {
         Ok(name) => {
-            let scope = Scope::Under(NodeId::of(name.node));
-            find_in(alloc, session, wanted, scope, parameters)
+            let reply = find_in(alloc, session, wanted, Some(name), parameters)?;
+            Ok(reply)
         }
-        Err(code) => failure(alloc, code),
+        Err(code) => {
+            let reply = failure(alloc, code)?;
+            Ok(Some(reply))
+        }
     }
 }

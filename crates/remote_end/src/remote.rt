@@ -1,15 +1,22 @@
-ghost use Rattle.std.specs.Prelude.{◌≡◌, ◌<◌, ◌^◌, ◌∷◌, ◌++◌, [], false, true, IsTrue, IfOk, OnOk, OnErr, length};
-ghost use Rattle.remote_end.specs.Step.{RepliesAt};
+ghost use Rattle.std.specs.Prelude.{◌≡◌, ◌↔◌, ◌<◌, ◌≤◌, ◌^◌, ◌∷◌, ◌++◌, [], ℕ, false, true, Some, Ok, IsTrue, IsSome, IfSome, IfOk, OnOk, OnErr, length};
+ghost use Rattle.remote_end.specs.Carried.{HasStatus};
+ghost use Rattle.remote_end.specs.Step.{Begins, Resumes, IsFree};
+ghost use Rattle.remote_end.specs.Meaning.{target_bytes};
+ghost use Rattle.remote_end.specs.Naming.{session_of};
+ghost use Rattle.remote_end.specs.Waits.{busy_of};
 ghost use Rattle.remote_end.specs.declared.taken.Taken.TheVariants.{Reading};
-ghost use Rattle.remote_end.specs.Standing.{initial};
+ghost use Rattle.remote_end.specs.Standing.{initial, IsReady};
 ghost use Rattle.remote_end.specs.Runs.{Answers};
 ghost use Rattle.page_engine.specs.Sites.{IsLawfulSite};
 ghost use Rattle.wd_http.specs.Sent.{is_status};
 
 use crate::evaluator::Evaluator;
+use crate::naming::session_of;
 use crate::reply::Reply;
-use crate::run::respond;
+use crate::resuming::{busy, resume};
+use crate::run::begin;
 use crate::session::Session;
+use crate::step::Step;
 use crate::taken::{Taken, TakenList};
 use capabilities::Offer;
 use endpoints::Endpoints;
@@ -35,7 +42,7 @@ pub struct Remote {
 }
 
 impl Model for Remote {
-    ghost use Rattle.std.specs.Prelude.{◌≡◌, ◌<◌, ◌^◌, false};
+    ghost use Rattle.std.specs.Prelude.{◌≡◌, ◌↔◌, ◌<◌, ◌^◌, false};
     ghost use Rattle.remote_end.specs.Standing.{Standing, AreSound};
     ghost use Rattle.std.specs.Coded.{codes};
     ghost use Rattle.page_engine.specs.Sites.{IsLawfulSite};
@@ -53,7 +60,7 @@ impl Model for Remote {
       spent = r.spent;
     } };
 
-    ghost invariant = { λ r. IsLawfulSite r.site × (r.run < 2 ^ 48) × (r.spent ≡ false → AreSound r.sessions.items) };
+    ghost invariant = { λ r. IsLawfulSite r.site × (r.run < 2 ^ 48) × (r.spent ≡ false → AreSound r.next r.sessions.items) };
 }
 
 impl Remote {
@@ -85,6 +92,17 @@ impl Remote {
         self.spent
     }
 
+    /// Whether a request may be answered: it isn't spent, and no command waits. It takes no memory.
+    pub fn is_ready(&self) -> bool
+        ensures { IsTrue result ↔ IsReady self.now }
+    {
+        !self.spent
+            && self
+                .sessions
+                .iter()
+                .all(|session| session.waiting.is_none())
+    }
+
     /// What was taken of the outside, in order: each reading of the clock.
     pub fn taken(&self) -> &TakenList
         requires { self.now.spent ≡ false }
@@ -101,36 +119,55 @@ impl Remote {
         self.sessions.len() as u32
     }
 
-    /// Answers a request: one step of the command machine. It reads the clock once, also for a request that
-    /// is refused. After `Memory` the remote end is spent.
-    pub fn answer<C: Clock, E: Evaluator>(
+    /// The next moment of the session with that number, where a command of it waits. It takes no memory.
+    pub fn busy(&self, session: u32) -> Option<u64>
+        requires { self.now.spent ≡ false }
+        ensures { result ≡ busy_of session self.now.state.sessions }
+    {
+        busy(&self.sessions, session)
+    }
+
+    /// The number of the open session that a request's path names, whether or not the path has an endpoint: its
+    /// first segment is `session`, and its second one, percent-decoded, is the session's identifier. `None` exactly
+    /// where it names no open session. It takes no memory.
+    pub fn session_of(&self, request: &Request) -> Option<u32>
+        requires { self.now.spent ≡ false }
+        ensures { result ≡ session_of (target_bytes request.now) self.now.state.sessions }
+    {
+        session_of(&self.sessions, request.target.as_str())
+    }
+
+    /// Whether a request may be begun: no command waits in the session that its path names. It takes no memory.
+    pub fn is_free(&self, request: &Request) -> bool
+        requires { self.now.spent ≡ false }
+        ensures { IsTrue result → IsFree self.now.state request.now }
+    {
+        match self.session_of(request) {
+            Some(session) => self.busy(session).is_none(),
+            None => true,
+        }
+    }
+
+    /// Begins a request with a reading: the reply, or until when the command waits in its session. It waits exactly
+    /// where its next moment is later than its start. `is_free` says whether it may be begun. After `Memory` the
+    /// remote end is spent.
+    pub fn begin<E: Evaluator>(
         &mut self,
         request: &Request,
-        clock: &mut C,
+        now: u64,
         evaluator: &mut E,
-    ) -> Result<Reply, Memory>
-        requires { self.old.spent ≡ false }
-        ensures answers { IfOk result (Answers C.now_gives C.rest_gives clock.old clock.new self.old self.new request.now) }
-        ensures status { IfOk result (λ reply. IsTrue (is_status reply.status)) }
+    ) -> Result<Step, Memory>
+        requires alive { self.old.spent ≡ false }
+        requires free { IsFree self.old.state request.now }
+        ensures begins { IfOk result (Begins self.old.setting self.old.state request.now now self.new.state) }
+        ensures kept { OnOk result (self.new ≡ record self.old { state = self.new.state; taken = self.old.taken ++ Reading now ∷ [] }) }
+        ensures status { IfOk result HasStatus }
         ensures memory { OnErr result (self.new.spent ≡ true) }
     {
         let _ = evaluator;
-        let reading = clock.now();
-        let reply = self.answer_at(request, reading)?;
-        Ok(reply)
-    }
-
-    /// Answers a request that is begun with a reading, and keeps the reading.
-    fn answer_at(&mut self, request: &Request, reading: u64) -> Result<Reply, Memory>
-        requires { self.old.spent ≡ false }
-        ensures replies { IfOk result (RepliesAt self.old.setting self.old.state request.now reading self.new.state) }
-        ensures kept { OnOk result (self.new ≡ record self.old { state = self.new.state; taken = self.old.taken ++ Reading reading ∷ [] }) }
-        ensures status { IfOk result (λ reply. IsTrue (is_status reply.status)) }
-        ensures memory { OnErr result (self.new.spent ≡ true) }
-    {
         self.spent = true;
-        self.taken.push(Taken::Reading(reading))?;
-        let reply = respond(
+        self.taken.push(Taken::Reading(now))?;
+        let step = begin(
             self.alloc,
             &self.endpoints,
             &self.site,
@@ -139,9 +176,75 @@ impl Remote {
             &mut self.next,
             &mut self.sessions,
             request,
-            reading,
+            now,
         )?;
         self.spent = false;
-        Ok(reply)
+        Ok(step)
+    }
+
+    /// Carries the command that waits in a session to a reading that reaches its next moment, and keeps the reading.
+    fn carry_on(&mut self, session: u32, now: u64) -> Result<Step, Memory>
+        requires alive { self.old.spent ≡ false }
+        requires busy { IfSome (busy_of session self.old.state.sessions) (λ until. until ≤ now) × IsSome (busy_of session self.old.state.sessions) }
+        ensures resumes { IfOk result (Resumes self.old.state session now self.new.state) }
+        ensures kept { OnOk result (self.new ≡ record self.old { state = self.new.state; taken = self.old.taken ++ Reading now ∷ [] }) }
+        ensures status { IfOk result HasStatus }
+        ensures memory { OnErr result (self.new.spent ≡ true) }
+    {
+        self.spent = true;
+        self.taken.push(Taken::Reading(now))?;
+        let step = resume(self.alloc, &mut self.sessions, session, now)?;
+        self.spent = false;
+        Ok(step)
+    }
+
+    /// Resumes the command that waits in a session: all its next moments that are at most the reading are handled, in
+    /// order. With a reading before the next moment nothing changes, and the reading isn't kept.
+    pub fn resume(&mut self, session: u32, now: u64) -> Result<Step, Memory>
+        requires alive { self.old.spent ≡ false }
+        requires busy { IsSome (busy_of session self.old.state.sessions) }
+        ensures resumes { (until : ℕ) → busy_of session self.old.state.sessions ≡ Some until → until ≤ now → IfOk result (Resumes self.old.state session now self.new.state) }
+        ensures kept { (until : ℕ) → busy_of session self.old.state.sessions ≡ Some until → until ≤ now → OnOk result (self.new ≡ record self.old { state = self.new.state; taken = self.old.taken ++ Reading now ∷ [] }) }
+        ensures early { (until : ℕ) → busy_of session self.old.state.sessions ≡ Some until → now < until → (result ≡ Ok (Step.Wait session until)) × (self.new ≡ self.old) }
+        ensures status { IfOk result HasStatus }
+        ensures memory { OnErr result (self.new.spent ≡ true) }
+    {
+        match self.busy(session) {
+            Some(until) => {
+                if now < until {
+                    Ok(Step::Wait { session, until })
+                } else {
+                    let step = self.carry_on(session, now)?;
+                    Ok(step)
+                }
+            }
+            None => unreachable!(),
+        }
+    }
+
+    /// Answers a request: one step of the command machine. It reads the clock once, also for a request that
+    /// is refused, and rests while the command waits. After `Memory` the remote end is spent.
+    pub fn answer<C: Clock, E: Evaluator>(
+        &mut self,
+        request: &Request,
+        clock: &mut C,
+        evaluator: &mut E,
+    ) -> Result<Reply, Memory>
+        requires { IsReady self.old }
+        ensures answers { IfOk result (Answers C.now_gives C.rest_gives clock.old clock.new self.old self.new request.now) }
+        ensures status { IfOk result (λ reply. IsTrue (is_status reply.status)) }
+        ensures memory { OnErr result (self.new.spent ≡ true) }
+    {
+        let reading = clock.now();
+        let mut step = self.begin(request, reading, evaluator)?;
+        'rests: loop {
+            match step {
+                Step::Reply(reply) => return Ok(reply),
+                Step::Wait { session, until } => {
+                    let reading = clock.rest_until(until);
+                    step = self.resume(session, reading)?;
+                }
+            }
+        }
     }
 }

@@ -1,4 +1,4 @@
-use crate::{Evaluator, Remote};
+use crate::{Evaluator, Remote, Step};
 use page_engine::Site;
 use std::alloc::Global;
 use std::process::Abort;
@@ -35,7 +35,7 @@ fn asked(
     body: &str,
 ) -> Result<(), Fail> {
     let request = request(alloc, ask.0, ask.1, ask.2)?;
-    assert!(rt; !remote.spent());
+    assert!(rt; remote.is_ready());
     let reply = remote.answer(&request, &mut VirtualClock::new(), &mut NoScripts)?;
     assert_eq!(rt; reply.status, status);
     let text = write(alloc, &reply.body)?;
@@ -105,7 +105,7 @@ fn nine_sessions_are_too_many(rt: HostRuntime) -> Result<(), Fail> {
     let alloc = rt.alloc();
     let mut remote = remote(alloc, "x")?;
     for open in 0..8 {
-        assert!(rt; !remote.spent());
+        assert!(rt; remote.is_ready());
         assert_eq!(rt; remote.sessions(), open);
         let request = request(alloc, "POST", "/session", r#"{"capabilities":{}}"#)?;
         let reply = remote.answer(&request, &mut VirtualClock::new(), &mut NoScripts)?;
@@ -123,5 +123,56 @@ fn nine_sessions_are_too_many(rt: HostRuntime) -> Result<(), Fail> {
         refused,
     )?;
     asked(&rt, alloc, &mut remote, ("GET", "/status", ""), 200, full)?;
+    Ok(())
+}
+
+/// Whether it waits in that session until that moment.
+fn waits(step: &Step, number: u32, moment: u64) -> bool {
+    match step {
+        Step::Wait { session, until } => *session == number && *until == moment,
+        Step::Reply(_) => false,
+    }
+}
+
+/// Carries the first session's command, which waits, to a reading.
+fn resumed(rt: &impl Abort, remote: &mut Remote, now: u64) -> Result<Step, Fail> {
+    assert!(rt; !remote.spent());
+    assert!(rt; remote.busy(1).is_some());
+    Ok(remote.resume(1, now)?)
+}
+
+#[test]
+fn a_find_waits_and_is_resumed(rt: HostRuntime) -> Result<(), Fail> {
+    let alloc = rt.alloc();
+    let mut remote = remote(alloc, "x")?;
+    let open = request(
+        alloc,
+        "POST",
+        "/session",
+        r#"{"capabilities":{"alwaysMatch":{"timeouts":{"implicit":100}}}}"#,
+    )?;
+    assert!(rt; remote.is_ready());
+    let reply = remote.answer(&open, &mut VirtualClock::new(), &mut NoScripts)?;
+    assert_eq!(rt; reply.status, 200);
+    let target = "/session/00000000-0001-8000-8000-000100000000/element";
+    let find = request(
+        alloc,
+        "POST",
+        target,
+        r##"{"using":"css selector","value":"#none"}"##,
+    )?;
+    assert!(rt; !remote.spent());
+    assert!(rt; remote.session_of(&find) == Some(1));
+    assert!(rt; remote.is_free(&find));
+    let begun = remote.begin(&find, 7, &mut NoScripts)?;
+    assert!(rt; waits(&begun, 1, 107));
+    let early = resumed(&rt, &mut remote, 106)?;
+    assert!(rt; waits(&early, 1, 107));
+    match resumed(&rt, &mut remote, 90_000)? {
+        Step::Reply(late) => assert_eq!(rt; late.status, 404),
+        Step::Wait { .. } => assert!(rt; false),
+    }
+    assert!(rt; remote.is_ready());
+    assert_eq!(rt; remote.taken().len(), 3);
     Ok(())
 }

@@ -1,0 +1,5 @@
+use Rattle.remote_end.proofs.AdvanceThere.{advances_somewhere}
+use Rattle.remote_end.proofs.laws.advances_somewhere.Goals as goal
+
+pub returns : goal.returns
+returns c = advances_somewhere
