@@ -1,5 +1,6 @@
 ghost use Rattle.std.specs.Prelude.{◌≡◌, ◌≤◌, ◌+◌, IsTrue, IfOk, OnOk, OnErr, true, false};
 ghost use Rattle.wd_http.specs.Sent.{is_status};
+ghost use Rattle.remote_end.specs.Standing.{IsReady};
 ghost use Rattle.webdriverd.specs.Sent.{response_to};
 ghost use Rattle.webdriverd.specs.Service.{SentOn, Replies};
 
@@ -50,10 +51,10 @@ pub(crate) fn reply<L: Line, C: Clock, E: Evaluator>(
     request: &Request,
     close: bool,
 ) -> Result<bool, Memory>
-    requires { remote.old.spent ≡ false }
+    requires { IsReady remote.old }
     ensures replies { IfOk result (Replies C.now_gives C.rest_gives clock.old clock.new remote.old remote.new
         L.tells (L.talk line.old) (L.talk line.new) request.now close) }
-    ensures whole { OnOk result (remote.new.spent ≡ false) }
+    ensures ready { OnOk result (IsReady remote.new) }
     ensures faults { L.faults line.old ≤ L.faults line.new }
     ensures refusals { L.refusals line.new ≡ L.refusals line.old }
 {

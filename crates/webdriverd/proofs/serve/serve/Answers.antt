@@ -9,7 +9,7 @@ reads-init g c = rw c.new-framer.ensures (record {
   stands = λ h. record { coming = refl; is_open = refl; past = refl; came_is = refl };
   good = refl;
   fresh_framer = refl;
-  fresh_remote = c.requires;
+  ready = c.requires;
   few = omega arith;
   room = refl;
   short = omega arith;
@@ -50,7 +50,7 @@ reads-preserved g c =
       stands = λ h. stands_on (c.reads.invariant.stands h) (stands_on (c.in_ok-answer_all.ensures.stands h) (stands_read _ _ _ (c.in-Ok.ensures.told h).0 (c.in-Ok.ensures.told h).1));
       good = ap (λ s. s.bad) now ∙ rests.good;
       fresh_framer = ap (λ s. s.spent) now ∙ rests.fresh;
-      fresh_remote = c.in_ok-answer_all.ensures.whole;
+      ready = c.in_ok-answer_all.ensures.ready;
       few = rests.few;
       room = c.read.auto.into ∙ c.reads.invariant.room;
       short = let s = rests.short in let b = c.in-Ok.ensures.bound in rw more (omega (arith, length-append c.answer_all.new.framer.unread (take c.in-Ok.n c.read.new.into), length-take c.in-Ok.n c.read.new.into));
