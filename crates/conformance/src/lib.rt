@@ -36,6 +36,4 @@ mod timeouts;
 #[cfg(test)]
 mod turns;
 #[cfg(test)]
-mod waiting;
-#[cfg(test)]
 mod worked_site;
