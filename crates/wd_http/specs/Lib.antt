@@ -16,6 +16,7 @@ pub mod Kept
 pub mod Known
 pub mod Laws
 pub mod Least
+pub mod Made
 pub mod Marks
 pub mod Seen
 pub mod Sent

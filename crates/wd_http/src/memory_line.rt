@@ -82,6 +82,8 @@ impl Line for MemoryLine {
 
     ghost refusals = { λ m. m.refusals };
 
+    ghost makes = { λ _ _ _. Unit {0} };
+
     /// Does nothing, and fails exactly where the number of the call stands in the list.
     fn open(&mut self, _port: u16) -> Result<(), Failed>
         ensures told { self.new.talk ≡ self.old.talk }
