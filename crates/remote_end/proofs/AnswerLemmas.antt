@@ -13,23 +13,25 @@ use Rattle.remote_end.specs.declared.reply.Reply.{Reply}
 use Rattle.remote_end.specs.declared.session.Session.{Session}
 use Rattle.remote_end.specs.declared.step.Step.{Step as Outcome}
 use Rattle.remote_end.specs.declared.step.Step.TheVariants.{Reply as Replied, Wait}
-use Rattle.remote_end.specs.Setting.{Setting}
+use Rattle.remote_end.specs.declared.setting.Setting.{Setting}
 use Rattle.remote_end.specs.State.{State, After, Same, Leaves, Ends, Opens, own_place, place_numbered, at_place, session_numbered, session_named, set_at, without_at, changed}
-use Rattle.remote_end.specs.Plan.{Plan, Done}
+use Rattle.remote_end.specs.Plan.{Plan}
 use Rattle.remote_end.specs.Moments.{later, first_moment, start_of}
 use Rattle.remote_end.specs.Meaning.{Means}
 use Rattle.remote_end.specs.Carried.{LeavesIdle, ComesTo}
 use Rattle.remote_end.specs.Waits.{AreIdle, IsPlanOf, next_moment, busy_in, busy_of, left_of}
-use Rattle.remote_end.specs.Step.{Call, Now, Rest, Steps, Begins, GoesOn, Resumes, IsNamed, IsTurnFor, own}
+use Rattle.remote_end.specs.Step.{Steps, Begins, GoesOn, Resumes, IsNamed, IsActFor, own}
 use Rattle.std.proofs.lemmas.List.{map-append}
 use Rattle.remote_end.specs.declared.taken.Taken.{Taken}
 use Rattle.remote_end.specs.declared.taken.Taken.TheVariants.{Reading}
-use Rattle.remote_end.specs.Standing.{Standing, IsReady, Ticks, taken_of}
+use Rattle.remote_end.specs.Standing.{Standing, IsReady}
+use Rattle.remote_end.specs.Outside.{Call, Now, Rest, taken_of}
+use Rattle.wd_http.specs.Made.{Made}
 use Rattle.remote_end.specs.Runs.{Answers}
-use Rattle.remote_end.proofs.RunLemmas.{ticks_on}
+use Rattle.remote_end.proofs.RunLemmas.{made_on, made_one}
 use Rattle.remote_end.proofs.NumberLemmas.{numbered_set}
 use Rattle.remote_end.proofs.RunAtLemmas.{some_session, here_set, set_again}
-use Rattle.remote_end.proofs.RestLemmas.{Made, Known, known_first, known_next, made_all, first_of}
+use Rattle.remote_end.proofs.RestLemmas.{HasMade, Known, known_first, known_next, made_all, first_of}
 
 position_within : {X : Type 0} (test : X → Bool) (xs : List X) (i : ℕ) → position test xs ≡ Some i → i < length xs
 position_within test xs i e =
@@ -59,7 +61,7 @@ pub record Underway (setting : Setting) (old : State) (request : Request) (readi
   pub r : ℕ
   pub less : r < until
   pub begins : (plan : Plan) → IsPlanOf session plan → first_moment plan.stages ≡ Some until
-  pub known : Known (λ plan. IsTurnFor setting old meaning reading (Done plan)) (start_of (session_named (own meaning) old.sessions) reading) made r session
+  pub known : Known (IsActFor setting old meaning reading []) (start_of (session_named (own meaning) old.sessions) reading) made r session
   pub place : ℕ
   pub place_is : own_place (own meaning) old.sessions ≡ Some place
   pub here : slice_get old.sessions place ≡ Some first
@@ -100,7 +102,7 @@ idle_after old named (Opens s) idle leaves = All-push (λ (t : Session). t.waiti
 
 module _ (setting : Setting) (old : State) (request : Request) (reading : ℕ) (idle : AreIdle old.sessions) where
   step_of : (meaning : Result Order Code) → Means old request meaning → (made : List Call) (m : Plan)
-      → Made (λ plan. IsTurnFor setting old meaning reading (Done plan)) (start_of (session_named (own meaning) old.sessions) reading) made m
+      → HasMade (IsActFor setting old meaning reading []) (start_of (session_named (own meaning) old.sessions) reading) made m
       → (reply : Reply) (after : After) → reply ≡ m.reply → after ≡ m.after → (new : State) → new ≡ changed old (own meaning) after → Steps setting old request (Now reading ∷ made) reply new
   unfolding Steps
   step_of meaning means made m is reply after reply_is after_is new new_is = record {
@@ -109,11 +111,9 @@ module _ (setting : Setting) (old : State) (request : Request) (reading : ℕ) (
     reading = reading;
     asked = [];
     rests = made;
-    turn = Done is.plan;
-    turn_is = is.is;
     plan = is.plan;
+    act = is.is;
     calls_are = refl;
-    plays = (refl, refl);
     waits = is.rests;
     reply_is = reply_is ∙ is.reply_is;
     new_is = new_is ∙ ap (changed old (own meaning)) (after_is ∙ is.after_is);
@@ -122,14 +122,14 @@ module _ (setting : Setting) (old : State) (request : Request) (reading : ℕ) (
   -- it was begun
   module _ (new : State) (meaning : Result Order Code) (means : Means old request meaning) (after : After) (new_is : new ≡ changed old (own meaning) after) where
     abbrev IsPlan : Plan → Type 0
-    IsPlan plan = IsTurnFor setting old meaning reading (Done plan)
+    IsPlan plan = IsActFor setting old meaning reading [] plan
 
     abbrev start : ℕ
     start = start_of (session_named (own meaning) old.sessions) reading
 
     by : (o : Outcome) → ComesTo IsPlan start o after → IsNamed o (own meaning) old.sessions → Answering setting old request reading [] new o
     by (Replied reply) ends named =
-        let made : Made IsPlan start [] ends.plan = record { plan = ends.plan; is = ends.is; rests = ends.over; reply_is = refl; after_is = refl } in
+        let made : HasMade IsPlan start [] ends.plan = record { plan = ends.plan; is = ends.is; rests = ends.over; reply_is = refl; after_is = refl } in
         let P : State → Type 0 = λ t. AreIdle t.sessions in
         (step_of meaning means [] ends.plan made reply after ends.reply_is ends.after_is new new_is, subst P (sym new_is) (idle_after old (own meaning) after idle ends.idle))
     by (Wait number until) (session, after_is, waits) (place, place_is, numbered) =
@@ -178,7 +178,7 @@ module _ (setting : Setting) (old : State) (request : Request) (reading : ℕ) (
       on : (left : Session) (o : Outcome) → ComesTo (IsPlanOf held.session) x o (Leaves left) → left.number ≡ held.session.number
           → new ≡ record old { sessions = slice_set old.sessions held.place left } → Answering setting old request reading Now_made new o
       on left (Replied reply) ends number_is new_is =
-          let IsPlan : Plan → Type 0 = λ plan. IsTurnFor setting old held.meaning reading (Done plan) in
+          let IsPlan : Plan → Type 0 = IsActFor setting old held.meaning reading [] in
           let start : ℕ = start_of (session_named (own held.meaning) old.sessions) reading in
           let all = made_all IsPlan start held.r number until x held.session made held.known held.less late reply (Leaves left) ends held.begins in
           let changed_is : new ≡ changed old (own held.meaning) (Leaves left) = new_is ∙ ap (λ (o : Option ℕ). let t : State = record old { sessions = set_at old.sessions o left } in t) (sym held.place_is) in
@@ -187,7 +187,7 @@ module _ (setting : Setting) (old : State) (request : Request) (reading : ℕ) (
             subst P (sym changed_is) (idle_after old (own held.meaning) (Leaves left) idle ends.idle),
           )
       on left (Wait other next) (session, after_is, waits) number_is new_is =
-          let IsPlan : Plan → Type 0 = λ plan. IsTurnFor setting old held.meaning reading (Done plan) in
+          let IsPlan : Plan → Type 0 = IsActFor setting old held.meaning reading [] in
           let start : ℕ = start_of (session_named (own held.meaning) old.sessions) reading in
           let same : left ≡ session = left_same left session after_is in
           let n : session.number ≡ held.first.number = ap (λ (t : Session). t.number) (sym same) ∙ number_is ∙ held.number_is in
@@ -275,26 +275,26 @@ module _ (current new : State) (number until x : ℕ) (busy : busy_of number cur
 
 -- ---- what the loop knows
 
-pub record Rested {C : Type 0} (now : C → ℕ → C → Type 0) (wait : C → ℕ → ℕ → C → Type 0) (old_clock clock : C) (old current : Standing) (request : Request) (reading : ℕ) (outcome : Outcome) : Type 0 where
+pub record Rested {O : Type 0} (makes : O → Call → O → Type 0) (before after : O) (old current : Standing) (request : Request) (reading : ℕ) (outcome : Outcome) : Type 0 where
   pub made : List Call
   pub answering : Answering old.setting old.state request reading made current.state outcome
   pub kept : current ≡ record old { state = current.state; taken = old.taken ++ map taken_of (Now reading ∷ made) }
-  pub ticks : Ticks now wait old_clock (Now reading ∷ made) clock
+  pub calls : Made makes before (Now reading ∷ made) after
 
-module _ {C : Type 0} (now : C → ℕ → C → Type 0) (wait : C → ℕ → ℕ → C → Type 0) (old_clock clock : C) (old : Standing) (request : Request) (reading : ℕ) (ready : IsReady old) where
-  pub rested_first : (current : Standing) (outcome : Outcome) → now old_clock reading clock → Begins old.setting old.state request reading current.state outcome
-      → current ≡ record old { state = current.state; taken = old.taken ++ Reading reading ∷ [] } → Rested now wait old_clock clock old current request reading outcome
-  rested_first current outcome gives begins kept = record {
+module _ {O : Type 0} (makes : O → Call → O → Type 0) (before after : O) (old : Standing) (request : Request) (reading : ℕ) (ready : IsReady old) where
+  pub rested_first : (current : Standing) (outcome : Outcome) → makes before (Now reading) after → Begins old.setting old.state request reading current.state outcome
+      → current ≡ record old { state = current.state; taken = old.taken ++ Reading reading ∷ [] } → Rested makes before after old current request reading outcome
+  rested_first current outcome does begins kept = record {
     made = [];
     answering = begun old.setting old.state request reading ready.idle current.state outcome begins;
     kept = kept;
-    ticks = (clock, gives, refl);
+    calls = made_one makes before after (Now reading) does;
   }
 
-  pub rested_next : (current new : Standing) (number until x : ℕ) (outcome : Outcome) (later : C) → Rested now wait old_clock clock old current request reading (Wait number until)
-      → until ≤ x → wait clock until x later → Resumes current.state number x new.state outcome → new ≡ record current { state = new.state; taken = current.taken ++ Reading x ∷ [] }
-      → Rested now wait old_clock later old new request reading outcome
-  rested_next current new number until x outcome later held late gives resumes kept =
+  pub rested_next : (current new : Standing) (number until x : ℕ) (outcome : Outcome) (later : O) → Rested makes before after old current request reading (Wait number until)
+      → until ≤ x → makes after (Rest until x) later → Resumes current.state number x new.state outcome → new ≡ record current { state = new.state; taken = current.taken ++ Reading x ∷ [] }
+      → Rested makes before later old new request reading outcome
+  rested_next current new number until x outcome later held late does resumes kept =
       let taken_is : current.taken ≡ old.taken ++ map taken_of (Now reading ∷ held.made) = ap (λ (s : Standing). s.taken) held.kept in
       let taken_more : current.taken ++ Reading x ∷ [] ≡ old.taken ++ map taken_of (Now reading ∷ held.made ++ Rest until x ∷ []) =
       ap (λ (l : List Taken). l ++ Reading x ∷ []) taken_is ∙ append_assoc old.taken (map taken_of (Now reading ∷ held.made)) (Reading x ∷ [])
@@ -305,27 +305,27 @@ module _ {C : Type 0} (now : C → ℕ → C → Type 0) (wait : C → ℕ → �
         kept = kept
             ∙ ap (λ (s : Standing). let t : Standing = record s { state = new.state; taken = current.taken ++ Reading x ∷ [] } in t) held.kept
             ∙ ap (λ (l : List Taken). let t : Standing = record old { state = new.state; taken = l } in t) taken_more;
-        ticks = ticks_on now wait old_clock clock later (Now reading ∷ held.made) (Rest until x ∷ []) held.ticks (later, gives, refl);
+        calls = made_on makes before after later (Now reading ∷ held.made) (Rest until x ∷ []) held.calls (made_one makes after later (Rest until x) does);
       }
 
-  pub answers_all : (current : Standing) (reply : Reply) → Rested now wait old_clock clock old current request reading (Replied reply) → Answers now wait old_clock clock old current request reply
+  pub answers_all : (current : Standing) (reply : Reply) → Rested makes before after old current request reading (Replied reply) → Answers makes before after old current request reply
   answers_all current reply held = record {
     calls = Now reading ∷ held.made;
     steps = held.answering.0;
     taken = ap (λ (s : Standing). s.taken) held.kept;
-    ticks = held.ticks;
+    made = held.calls;
     setting = ap (λ (s : Standing). s.setting) held.kept;
     ready = record { alive = ap (λ (s : Standing). s.spent) held.kept ∙ ready.alive; idle = held.answering.1 };
   }
 
 -- while it waits, its session is busy
-pub busy_while : {C : Type 0} (now : C → ℕ → C → Type 0) (wait : C → ℕ → ℕ → C → Type 0) (old_clock clock : C) (old current : Standing) (request : Request) (reading number until : ℕ) (outcome : Outcome) → IsReady old
-    → Rested now wait old_clock clock old current request reading outcome → outcome ≡ Wait number until → busy_of number current.state.sessions ≡ Some until
-busy_while {C} now wait old_clock clock old current request reading number until outcome ready held is =
+pub busy_while : {O : Type 0} (makes : O → Call → O → Type 0) (before after : O) (old current : Standing) (request : Request) (reading number until : ℕ) (outcome : Outcome) → IsReady old
+    → Rested makes before after old current request reading outcome → outcome ≡ Wait number until → busy_of number current.state.sessions ≡ Some until
+busy_while {O} makes before after old current request reading number until outcome ready held is =
     let P : Outcome → Type 0 = λ o. Answering old.setting old.state request reading held.made current.state o in
     is_busy old.setting old.state request reading ready.idle held.made current.state number until (subst P is held.answering)
 
-pub rested_as : {C : Type 0} (now : C → ℕ → C → Type 0) (wait : C → ℕ → ℕ → C → Type 0) (old_clock clock : C) (old current : Standing) (request : Request) (reading : ℕ) (one other : Outcome)
-    → one ≡ other → Rested now wait old_clock clock old current request reading one → Rested now wait old_clock clock old current request reading other
-rested_as {C} now wait old_clock clock old current request reading one other is held =
-    let P : Outcome → Type 0 = λ o. Rested now wait old_clock clock old current request reading o in subst P is held
+pub rested_as : {O : Type 0} (makes : O → Call → O → Type 0) (before after : O) (old current : Standing) (request : Request) (reading : ℕ) (one other : Outcome)
+    → one ≡ other → Rested makes before after old current request reading one → Rested makes before after old current request reading other
+rested_as {O} makes before after old current request reading one other is held =
+    let P : Outcome → Type 0 = λ o. Rested makes before after old current request reading o in subst P is held

@@ -21,7 +21,7 @@ use Rattle.remote_end.specs.declared.waiting.FindWait.{FindWait}
 use Rattle.remote_end.specs.Advance.{NoneDue, Advanced}
 use Rattle.remote_end.specs.Elements.{is_current}
 use Rattle.remote_end.specs.FindSpans.{StartsIn, GivesBelow, GivesFrom, Gives, EndsAt, FindEnds, soonest, AtEnd, Onwards}
-use Rattle.remote_end.specs.Finds.{nodes_turn, FindPlan}
+use Rattle.remote_end.specs.Finds.{nodes_plan, FindPlan}
 use Rattle.remote_end.specs.Plan.{Plan, at_once}
 use Rattle.remote_end.specs.State.{After}
 use Rattle.remote_end.specs.Waits.{IsSought, FindFits}
@@ -212,7 +212,7 @@ module _ (find : FindWait) (s : Session) (fits : FindFits find s.page s.at) wher
   -- ---- the plan from there on is what is left of the plan
 
   pub plan_there : (end : Session) (nodes : List ℕ) (reply : Reply) (after : After) → Advanced s moment end → Gives find end.page.rows nodes → EndsAt find nodes moment
-      → nodes_turn find.wanted end nodes ≡ at_once reply after
+      → nodes_plan find.wanted end nodes ≡ at_once reply after
       → FindPlan find s (record { reply = reply; after = after; begun = Some s; stages = record { moment = moment; session = end } ∷ [] })
   plan_there end nodes reply after a gives ends answers = record {
     end = end;
@@ -242,7 +242,7 @@ module _ (find : FindWait) (s : Session) (fits : FindFits find s.page s.at) wher
 
 -- a find that gives a node at its start, or whose span is over there, ends there
 pub plan_at_once : (find : FindWait) (s : Session) (nodes : List ℕ) (reply : Reply) (after : After) → NoneDue s.page.pending s.at → Gives find s.page.rows nodes → EndsAt find nodes s.at
-    → nodes_turn find.wanted s nodes ≡ at_once reply after → FindPlan find s (record { reply = reply; after = after; begun = None; stages = [] })
+    → nodes_plan find.wanted s nodes ≡ at_once reply after → FindPlan find s (record { reply = reply; after = after; begun = None; stages = [] })
 plan_at_once find s nodes reply after still gives ends answers = record {
   end = s;
   nodes = nodes;

@@ -14,6 +14,7 @@ pub mod OpeningLemmas
 pub mod PlanLaw
 pub mod PlanThere
 pub mod RestLemmas
+pub mod RowLemmas
 pub mod ResumeLaw
 pub mod RunAtLemmas
 pub mod RunLemmas

@@ -6,13 +6,13 @@ use Rattle.capabilities.specs.declared.matched.Matched.{Matched}
 use Rattle.wd_json.specs.declared.value.Json.{Json}
 use Rattle.remote_end.specs.declared.reply.Reply.{Reply}
 use Rattle.remote_end.specs.declared.session.Session.{Session}
-use Rattle.remote_end.specs.Setting.{Setting}
+use Rattle.remote_end.specs.declared.setting.Setting.{Setting}
 use Rattle.remote_end.specs.State.{State, Opens, IsWhole}
 use Rattle.remote_end.specs.Waits.{IsKept}
 use Rattle.remote_end.specs.Plan.{at_once}
 use Rattle.remote_end.specs.Replies.{success}
 use Rattle.remote_end.specs.Opening.{opened, session_value}
-use Rattle.remote_end.specs.Rows.{new_session}
+use Rattle.remote_end.specs.SessionRows.{new_session}
 use Rattle.remote_end.specs.Step.{EndsWith}
 
 module _ (setting : Setting) (next : ℕ) (matched : Matched) (reading : ℕ) (session : Session) (is : session ≡ opened setting next matched reading) where
@@ -31,9 +31,9 @@ module _ (setting : Setting) (next : ℕ) (matched : Matched) (reading : ℕ) (s
   number_of_opened = ap (λ (s : Session). s.number) is
 
   pub opens : (old new : List Session) (parameters : Json) (value : Json) (reply : Reply)
-      → processed setting.name parameters ≡ Ok matched → value ≡ session_value setting session → reply ≡ success value → new ≡ old ++ session ∷ []
+      → processed setting.offer.name parameters ≡ Ok matched → value ≡ session_value setting session → reply ≡ success value → new ≡ old ++ session ∷ []
       → (named : Option (List ℕ))
-      → EndsWith (new_session setting (record { next = next; sessions = old }) reading (processed setting.name parameters))
+      → EndsWith (new_session setting (record { next = next; sessions = old }) reading (processed setting.offer.name parameters))
       (record { next = next; sessions = old }) named (record { next = next + 1; sessions = new }) reply
   opens old new parameters value reply matches value_is reply_is new_is named =
       let s : Session = opened setting next matched reading in
@@ -41,7 +41,7 @@ module _ (setting : Setting) (next : ℕ) (matched : Matched) (reading : ℕ) (s
       record {
         after = Opens s;
         idle = refl;
-        turn_is = ap (new_session setting before reading) matches
+        plan_is = ap (new_session setting before reading) matches
             ∙ ap (λ (r : Reply). at_once r (Opens s)) (sym (reply_is ∙ ap success (value_is ∙ ap (session_value setting) is)));
         new_is = ap (λ (xs : List Session). let t : State = record { next = next + 1; sessions = xs } in t) (new_is ∙ ap (λ (t : Session). old ++ t ∷ []) is);
       }

@@ -10,8 +10,8 @@ use Rattle.remote_end.specs.declared.waiting.Waiting.{Waiting}
 use Rattle.remote_end.specs.declared.waiting.Waiting.TheVariants.{Find, Ended}
 use Rattle.remote_end.specs.Advance.{Advanced}
 use Rattle.remote_end.specs.FindSpans.{Gives, EndsAt, FindEnds, soonest, Passes, AtEnd, Onwards}
-use Rattle.remote_end.specs.Finds.{BegunIs, nodes_turn, FindPlan}
-use Rattle.remote_end.specs.Plan.{Stage, Plan, plan_at_once, at_once}
+use Rattle.remote_end.specs.Finds.{BegunIs, nodes_plan, FindPlan}
+use Rattle.remote_end.specs.Plan.{Stage, Plan, at_once}
 use Rattle.remote_end.specs.Resumed.{PlansAreOne}
 use Rattle.remote_end.specs.State.{After}
 use Rattle.remote_end.specs.Waits.{settled, PlansIn}
@@ -64,9 +64,7 @@ same_begun [] a b s x y = x ∙ sym y
 same_begun (stage ∷ stages) a b s x y = x ∙ sym y
 
 same_answer : (r q : Reply) (a b : After) → at_once r a ≡ at_once q b → (r ≡ q) × (a ≡ b)
-same_answer r q a b e =
-    let plans : plan_at_once r a ≡ plan_at_once q b = cc in
-    (ap (λ (p : Plan). p.reply) plans, ap (λ (p : Plan). p.after) plans)
+same_answer r q a b plans = (ap (λ (p : Plan). p.reply) plans, ap (λ (p : Plan). p.after) plans)
 
 plan_of : Reply → After → Option Session → List Stage → Plan
 plan_of r a b l = record { reply = r; after = a; begun = b; stages = l }
@@ -81,7 +79,7 @@ find_one find s p q a b =
     let Q : List Stage → Type 0 = λ l. BegunIs l p.begun s in
     let begun : p.begun ≡ q.begun = same_begun q.stages p.begun q.begun s (subst Q stages a.begun) b.begun in
     let answers = same_answer p.reply q.reply p.after q.after
-    (sym a.answers ∙ ap (λ (e : Session). nodes_turn find.wanted e a.nodes) end ∙ ap (λ (ns : List ℕ). nodes_turn find.wanted b.end ns) nodes ∙ b.answers) in
+    (sym a.answers ∙ ap (λ (e : Session). nodes_plan find.wanted e a.nodes) end ∙ ap (λ (ns : List ℕ). nodes_plan find.wanted b.end ns) nodes ∙ b.answers) in
     ap (λ (r : Reply). plan_of r p.after p.begun p.stages) answers.0
     ∙ ap (λ (x : After). plan_of q.reply x p.begun p.stages) answers.1
     ∙ ap (λ (o : Option Session). plan_of q.reply q.after o p.stages) begun

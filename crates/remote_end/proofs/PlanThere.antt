@@ -26,9 +26,9 @@ use Rattle.remote_end.specs.declared.waiting.Waiting.TheVariants.{Find, Ended}
 use Rattle.remote_end.specs.Advance.{Advanced}
 use Rattle.remote_end.specs.Elements.{current_document, is_current}
 use Rattle.remote_end.specs.FindSpans.{GivesBelow, GivesFrom, Gives, EndsAt, soonest}
-use Rattle.remote_end.specs.Finds.{first_turn, with_references, nodes_turn, FindPlan}
+use Rattle.remote_end.specs.Finds.{first_plan, with_references, nodes_plan, FindPlan}
 use Rattle.remote_end.specs.Handing.{with_reference}
-use Rattle.remote_end.specs.Plan.{Plan, Turn, at_once}
+use Rattle.remote_end.specs.Plan.{Plan, at_once}
 use Rattle.remote_end.specs.Resumed.{PlansAreThere}
 use Rattle.remote_end.specs.State.{After}
 use Rattle.remote_end.specs.Waits.{settled, PlansIn, next_in, IsSought, FindFits, Fits}
@@ -59,8 +59,8 @@ gives_there find rows sought = from_there find.start rows find.by find.text soug
 
 -- ---- what it answers
 
-abbrev AnswersAtOnce : Turn → Type 0
-AnswersAtOnce turn = (reply : Reply) × (after : After) × (turn ≡ at_once reply after)
+abbrev AnswersAtOnce : Plan → Type 0
+AnswersAtOnce plan = (reply : Reply) × (after : After) × (plan ≡ at_once reply after)
 
 reference_there : (kind : Kind) (s : Session) (o : Option (Identifier × Handed)) → AnswersAtOnce (with_reference kind s o)
 reference_there kind s None = (_, _, refl)
@@ -70,11 +70,11 @@ references_there : (s : Session) (o : Option (List Identifier × Handed)) → An
 references_there s None = (_, _, refl)
 references_there s (Some (ids, known)) = (_, _, refl)
 
-first_there : (s : Session) (o : Option ℕ) → AnswersAtOnce (first_turn s o)
+first_there : (s : Session) (o : Option ℕ) → AnswersAtOnce (first_plan s o)
 first_there s None = (_, _, refl)
 first_there s (Some node) = reference_there Element s (handed s.known Element (named_node current_document node))
 
-nodes_there : (wanted : Wanted) (s : Session) (nodes : List ℕ) → AnswersAtOnce (nodes_turn wanted s nodes)
+nodes_there : (wanted : Wanted) (s : Session) (nodes : List ℕ) → AnswersAtOnce (nodes_plan wanted s nodes)
 nodes_there First s nodes = first_there s (first_of_list nodes)
 nodes_there All s nodes = references_there s (handed_all s.known Element current_document nodes)
 

@@ -9,7 +9,8 @@ use Rattle.remote_end.specs.Plan.{Stage, Plan}
 use Rattle.remote_end.specs.Moments.{later, first_moment}
 use Rattle.remote_end.specs.Carried.{EndsBy, WaitsBy}
 use Rattle.remote_end.specs.Waits.{IsPlanOf}
-use Rattle.remote_end.specs.Step.{Call, Now, Script, Rest, Rests}
+use Rattle.remote_end.specs.Outside.{Call, Now, Rest}
+use Rattle.remote_end.specs.Step.{Rests}
 use Rattle.remote_end.proofs.WaitLemmas.{not_yet, not_lt}
 
 -- ---- rests
@@ -31,12 +32,11 @@ rests_of_rest stages a r [] h over = sym (ap first_moment (later_again stages a 
 rests_of_rest stages a r (Rest asked answer ∷ calls) h (next, late, more) =
     (sym (ap first_moment (later_again stages a r h)) ∙ next, late, rests_of_rest stages a (max r answer) calls (omega (arith, h)) more)
 rests_of_rest stages a r (Now answer ∷ calls) h rests = absurd rests
-rests_of_rest stages a r (Script asked answer ∷ calls) h rests = absurd rests
 
 -- ---- a command that was begun with one of these plans, and made these rests since
 
 module _ (IsPlan : Plan → Type 0) (start : ℕ) where
-  pub record Made (calls : List Call) (rest : Plan) : Type 0 where
+  pub record HasMade (calls : List Call) (rest : Plan) : Type 0 where
     pub plan : Plan
     pub is : IsPlan plan
     pub rests : Rests plan.stages start calls
@@ -45,7 +45,7 @@ module _ (IsPlan : Plan → Type 0) (start : ℕ) where
 
   -- where it waits: each plan that it has, with the rests that are to come, gives one that it had
   abbrev pub Known : List Call → ℕ → Session → Type 0
-  Known made r session = (rest : Plan) (more : List Call) → IsPlanOf session rest → Rests rest.stages r more → Made (made ++ more) rest
+  Known made r session = (rest : Plan) (more : List Call) → IsPlanOf session rest → Rests rest.stages r more → HasMade (made ++ more) rest
 
   pub known_first : (number until : ℕ) (session : Session) → WaitsBy IsPlan start number until session → Known [] start session
   known_first number until session waits rest more is rests =
@@ -62,7 +62,7 @@ module _ (IsPlan : Plan → Type 0) (start : ℕ) where
 module _ (IsPlan : Plan → Type 0) (start r number until x : ℕ) (session : Session) (made : List Call) (known : Known IsPlan start made r session)
     (less : r < until) (late : until ≤ x) where
   -- a plan of the session begins with a rest until its next moment
-  pub rested : (plan : Plan) (more : List Call) → IsPlanOf session plan → first_moment plan.stages ≡ Some until → Rests plan.stages x more → Made IsPlan start (made ++ Rest until x ∷ more) plan
+  pub rested : (plan : Plan) (more : List Call) → IsPlanOf session plan → first_moment plan.stages ≡ Some until → Rests plan.stages x more → HasMade IsPlan start (made ++ Rest until x ∷ more) plan
   rested plan more is first rests =
       let none = not_yet plan.stages plan.begun r until first less in
       let greatest : max r x ≡ x = omega (arith, less, late) in
@@ -87,7 +87,7 @@ module _ (IsPlan : Plan → Type 0) (start r number until x : ℕ) (session : Se
 
   -- it has ended
   pub made_all : (reply : Reply) (after : After) → EndsBy (IsPlanOf session) x reply after → ((plan : Plan) → IsPlanOf session plan → first_moment plan.stages ≡ Some until)
-      → (m : Plan) × Made IsPlan start (made ++ Rest until x ∷ []) m × (reply ≡ m.reply) × (after ≡ m.after)
+      → (m : Plan) × HasMade IsPlan start (made ++ Rest until x ∷ []) m × (reply ≡ m.reply) × (after ≡ m.after)
   made_all reply after ends first = (ends.plan, rested ends.plan [] ends.is (first ends.plan ends.is) ends.over, ends.reply_is, ends.after_is)
 
 -- the first next moment of its plans is the moment until which it waits

@@ -1,12 +1,9 @@
 -- A command of the session at a place.
-use Rattle.std.proofs.Common.{◌≡◌, ◌∙◌, ◌<◌, ℕ, suc, List, Option, Some, None, length, take, drop, slice_get, slice_set, ap, sym, subst, refl, arith}
+use Rattle.std.proofs.Common.{◌≡◌, ◌∙◌, ◌<◌, ◌∷◌, ℕ, zero, suc, List, [], Option, Some, None, length, take, drop, slice_get, slice_set, ap, sym, subst, refl, arith}
 use Rattle.std.specs.List.{All, remove}
 use Rattle.std.proofs.lemmas.List.Elements.{All-append, All-take, All-drop}
 use Rattle.std.proofs.lemmas.List.{set-set, get_or-set_same, length-set}
 use Rattle.std.proofs.lemmas.Option.{slice_get-get_or}
-use Rattle.endpoints.specs.declared.command.Command.{Command}
-use Rattle.endpoints.specs.declared.command.Command.TheVariants.{DeleteSession}
-use Rattle.wd_json.specs.declared.value.Json.TheVariants.{Null}
 use Rattle.remote_end.specs.declared.order.Order.{Order}
 use Rattle.remote_end.specs.declared.reply.Reply.{Reply}
 use Rattle.remote_end.specs.declared.session.Session.{Session}
@@ -16,14 +13,12 @@ use Rattle.remote_end.specs.Carried.{ComesTo}
 use Rattle.remote_end.specs.Waits.{IsPlanOf}
 use Rattle.remote_end.proofs.NumberLemmas.{numbered_at}
 use Rattle.remote_end.proofs.StepLemmas.{ends_at_once, comes_of}
-use Rattle.remote_end.specs.Setting.{Setting}
+use Rattle.remote_end.specs.declared.setting.Setting.{Setting}
 use Rattle.remote_end.specs.Advance.{Advanced}
 use Rattle.remote_end.specs.Moments.{start_of}
 use Rattle.remote_end.specs.State.{State, IsWhole, Rise, place_numbered, After, Same, Leaves, Ends, Opens, own_place, at_place, session_named, set_at, without_at, changed}
-use Rattle.remote_end.specs.Plan.{Plan, Done, plan_at_once, at_once}
-use Rattle.remote_end.specs.Replies.{success}
-use Rattle.remote_end.specs.Rows.{IsTurnIn, turn_in, turn_alone}
-use Rattle.remote_end.specs.Step.{GoesOn, NumberIs, IsNamed, AreLeft, RunsAt, EndsWith, ActsAt, IsTurnOf}
+use Rattle.remote_end.specs.Plan.{Plan, at_once}
+use Rattle.remote_end.specs.Step.{GoesOn, NumberIs, IsNamed, AreLeft, RunsAt, RunsAlone, ActsAt, IsRow, IsActOf}
 
 abbrev pub with_sessions : State → List Session → State
 with_sessions old sessions = record { next = old.next; sessions = sessions }
@@ -37,33 +32,36 @@ here_set sessions place s within = slice_get-get_or (slice_set sessions place s)
 pub set_again : (sessions : List Session) (place : ℕ) (s t : Session) → slice_set (slice_set sessions place s) place t ≡ slice_set sessions place t
 set_again sessions place s t = set-set sessions place s t
 
+-- one that was set is taken out
+pub removed_again : (sessions : List Session) (place : ℕ) (s : Session) → remove (slice_set sessions place s) place ≡ remove sessions place
+removed_again [] place s = refl
+removed_again (t ∷ ts) zero s = refl
+removed_again (t ∷ ts) (suc i) s = ap (λ (l : List Session). t ∷ l) (removed_again ts i s)
+
 number_of : (IsPlan : Plan → Type 0) (r : ℕ) (s left : Session) (outcome : Outcome) → ComesTo IsPlan r outcome (Leaves left) → left.number ≡ s.number → NumberIs outcome s
 number_of IsPlan r s left (Replied reply) ends n = tt
 number_of IsPlan r s left (Wait number until) (session, after_is, waits) n = let same : left ≡ session = cc in waits.number_is ∙ ap (λ (t : Session). t.number) (sym same) ∙ n
 
-module _ (order : Order) (reading : ℕ) (old : List Session) (place : ℕ) (session : Session) (here : slice_get old place ≡ Some session)
+module _ (setting : Setting) (order : Order) (reading : ℕ) (old : List Session) (place : ℕ) (session : Session) (here : slice_get old place ≡ Some session)
     (begun : Session) (advanced : Advanced session (start_of (Some session) reading) begun) where
   abbrev IsPlan : Plan → Type 0
-  IsPlan plan = IsTurnIn order begun order.route.command (Done plan)
+  IsPlan plan = IsRow setting order begun [] plan
 
   -- it ends
-  pub ends_here : (new : List Session) (reply : Reply) → order.route.command ≡ DeleteSession → reply ≡ success Null → new ≡ remove old place → RunsAt order reading old place new (Replied reply)
-  unfolding turn_in IsTurnIn
-  ends_here new reply deletes reply_is new_is = record {
+  pub ends_here : (left : Session) (reply : Reply) (new : List Session) → IsPlan (at_once reply Ends) → new ≡ remove (slice_set old place left) place → RunsAt setting order reading old place new (Replied reply)
+  ends_here left reply new row new_is = record {
     session = session;
     here = here;
     begun = begun;
     advanced = advanced;
     after = Ends;
-    comes = ends_at_once IsPlan (start_of (Some session) reading) reply Ends tt
-        (let P : Command → Type 0 = λ command. IsTurnIn order begun command (at_once reply Ends) in
-        subst P (sym deletes) (ap (λ (r : Reply). at_once r Ends) reply_is));
+    comes = ends_at_once IsPlan (start_of (Some session) reading) reply Ends tt row;
     number = tt;
-    left = new_is;
+    left = new_is ∙ removed_again old place left;
   }
 
   -- it has its reply at once
-  pub stays_here : (left : Session) (reply : Reply) → left.waiting ≡ None → IsPlan (plan_at_once reply (Leaves left)) → RunsAt order reading old place (slice_set old place left) (Replied reply)
+  pub stays_here : (left : Session) (reply : Reply) → left.waiting ≡ None → IsPlan (at_once reply (Leaves left)) → RunsAt setting order reading old place (slice_set old place left) (Replied reply)
   stays_here left reply idle turn = record {
     session = session;
     here = here;
@@ -77,7 +75,7 @@ module _ (order : Order) (reading : ℕ) (old : List Session) (place : ℕ) (ses
 
   -- it waits at its start, and is carried to it
   pub waits_here : (waiting : Session) (new : List Session) (outcome : Outcome) → place < length old → waiting.number ≡ session.number → ((plan : Plan) → IsPlanOf waiting plan → IsPlan plan)
-      → GoesOn (slice_set old place waiting) place (start_of (Some session) reading) new outcome → RunsAt order reading old place new outcome
+      → GoesOn (slice_set old place waiting) place (start_of (Some session) reading) new outcome → RunsAt setting order reading old place new outcome
   waits_here waiting new outcome within number plans goes = record {
     session = session;
     here = here;
@@ -113,15 +111,15 @@ set_of named old place new Ends is left = ap (with_sessions old) (left ∙ ap (�
 set_of named old place new (Opens s) is left = absurd left
 
 pub acts_in : (setting : Setting) (order : Order) (reading : ℕ) (old : State) (place : ℕ) (new : List Session) (outcome : Outcome)
-    → Rise 1 old.sessions old.next → own_place order.route.session old.sessions ≡ Some place → RunsAt order reading old.sessions place new outcome
+    → Rise 1 old.sessions old.next → own_place order.route.session old.sessions ≡ Some place → RunsAt setting order reading old.sessions place new outcome
     → ActsAt setting old order reading (with_sessions old new) outcome
 acts_in setting order reading old place new outcome rise is runs =
     let named : session_named order.route.session old.sessions ≡ Some runs.session = named_at order.route.session old.sessions place runs.session is runs.here in
-    let P : Option Session → Type 0 = λ s. ComesTo (λ plan. IsTurnOf setting old order reading s (Done plan)) (start_of s reading) outcome runs.after in
+    let P : Option Session → Type 0 = λ s. ComesTo (IsActOf setting old order reading s []) (start_of s reading) outcome runs.after in
     record {
       after = runs.after;
-      comes = subst P (sym named) (comes_of (λ plan. IsTurnIn order runs.begun order.route.command (Done plan)) (λ plan. IsTurnOf setting old order reading (Some runs.session) (Done plan))
-          (λ plan turn. (runs.begun, runs.advanced, turn)) (start_of (Some runs.session) reading) outcome runs.after runs.comes);
+      comes = subst P (sym named) (comes_of (IsRow setting order runs.begun []) (IsActOf setting old order reading (Some runs.session) [])
+          (λ plan row. (runs.begun, runs.advanced, row)) (start_of (Some runs.session) reading) outcome runs.after runs.comes);
       named = named_by outcome runs.number;
       new_is = set_of order.route.session old place new runs.after is runs.left;
     }
@@ -133,13 +131,13 @@ acts_in setting order reading old place new outcome rise is runs =
 
 pub acts_alone : (setting : Setting) (order : Order) (reading : ℕ) (old new : State) (reply : Reply)
     → own_place order.route.session old.sessions ≡ None
-    → EndsWith (turn_alone setting old order.parameters reading order.route.command) old order.route.session new reply
+    → RunsAlone setting order reading old order.route.session new reply
     → ActsAt setting old order reading new (Replied reply)
-acts_alone setting order reading old new reply is ends =
-    let P : Option Session → Type 0 = λ s. ComesTo (λ plan. IsTurnOf setting old order reading s (Done plan)) (start_of s reading) (Replied reply) ends.after in
+acts_alone setting order reading old new reply is runs =
+    let P : Option Session → Type 0 = λ s. ComesTo (IsActOf setting old order reading s []) (start_of s reading) (Replied reply) runs.after in
     record {
-      after = ends.after;
-      comes = subst P (sym (ap (at_place old.sessions) is)) (ends_at_once (λ plan. IsTurnOf setting old order reading None (Done plan)) (start_of None reading) reply ends.after ends.idle (sym ends.turn_is));
+      after = runs.after;
+      comes = subst P (sym (ap (at_place old.sessions) is)) (ends_at_once (IsActOf setting old order reading None []) (start_of None reading) reply runs.after runs.idle runs.act);
       named = tt;
-      new_is = ends.new_is;
+      new_is = runs.new_is;
     }

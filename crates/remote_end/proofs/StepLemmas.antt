@@ -6,17 +6,17 @@ use Rattle.remote_end.specs.declared.order.Order.{Order}
 use Rattle.remote_end.specs.declared.reply.Reply.{Reply}
 use Rattle.remote_end.specs.declared.step.Step.{Step as Outcome}
 use Rattle.remote_end.specs.declared.step.Step.TheVariants.{Reply as Replied, Wait}
-use Rattle.remote_end.specs.Setting.{Setting}
+use Rattle.remote_end.specs.declared.setting.Setting.{Setting}
 use Rattle.remote_end.specs.State.{State, After, Same}
-use Rattle.remote_end.specs.Plan.{Plan, plan_at_once, at_once}
+use Rattle.remote_end.specs.Plan.{Plan, at_once}
 use Rattle.remote_end.specs.Replies.{failure}
 use Rattle.remote_end.specs.Meaning.{Means}
 use Rattle.remote_end.specs.Carried.{LeavesIdle, EndsBy, ComesTo}
 use Rattle.remote_end.specs.Step.{Begins, ActsAt}
 
 -- of a turn that ends at once
-pub ends_at_once : (IsPlan : Plan → Type 0) (r : ℕ) (reply : Reply) (after : After) → LeavesIdle after → IsPlan (plan_at_once reply after) → EndsBy IsPlan r reply after
-ends_at_once IsPlan r reply after idle is = record { plan = plan_at_once reply after; is = is; over = refl; reply_is = refl; after_is = refl; idle = idle }
+pub ends_at_once : (IsPlan : Plan → Type 0) (r : ℕ) (reply : Reply) (after : After) → LeavesIdle after → IsPlan (at_once reply after) → EndsBy IsPlan r reply after
+ends_at_once IsPlan r reply after idle is = record { plan = at_once reply after; is = is; over = refl; reply_is = refl; after_is = refl; idle = idle }
 
 -- a command that has one of these plans has one of those
 pub comes_of : (One Other : Plan → Type 0) → ((plan : Plan) → One plan → Other plan) → (r : ℕ) (outcome : Outcome) (after : After) → ComesTo One r outcome after → ComesTo Other r outcome after
@@ -39,7 +39,7 @@ refused_at setting state request reading code reply means reply_is = record {
   meaning = Err code;
   means = means;
   after = Same;
-  comes = ends_at_once _ _ reply Same tt (ap (λ (r : Reply). at_once r Same) reply_is);
+  comes = ends_at_once _ _ reply Same tt (refl, ap (λ (r : Reply). at_once r Same) reply_is);
   named = tt;
   new_is = refl;
 }

@@ -21,10 +21,10 @@ use Rattle.remote_end.specs.declared.waiting.Waiting.TheVariants.{Find, Ended}
 use Rattle.remote_end.specs.Advance.{NoneDue, Advanced}
 use Rattle.remote_end.specs.Carried.{LeavesIdle, EndsBy, LeadsTo}
 use Rattle.remote_end.specs.FindSpans.{Gives, soonest, Passes, AtEnd, Onwards}
-use Rattle.remote_end.specs.Finds.{first_turn, with_references, nodes_turn, BegunIs, FindPlan}
+use Rattle.remote_end.specs.Finds.{first_plan, with_references, nodes_plan, BegunIs, FindPlan}
 use Rattle.remote_end.specs.Handing.{with_reference}
 use Rattle.remote_end.specs.Moments.{later, first_moment, next_after, stand_from, stand}
-use Rattle.remote_end.specs.Plan.{Stage, Plan, Turn, Done, Asks, plan_at_once, at_once}
+use Rattle.remote_end.specs.Plan.{Stage, Plan, at_once}
 use Rattle.remote_end.specs.State.{After, Same, Leaves, Ends, Opens, IsSameBut}
 use Rattle.remote_end.specs.Waits.{settled, with_waiting, PlansIn, IsPlanOf, next_in, next_moment, FindSteps, GoesOn, HasEnded, StepsIn, StepsAt, FindFits, Fits, FitsOrEnded, EndedWell, IsKept, IsGoing, left_in, left_of}
 use Rattle.remote_end.proofs.AdvanceMoreLemmas.{over_after, at_of}
@@ -38,16 +38,15 @@ settled_after s mid m none a = ap (λ (t : Session). t.waiting) a.kept ∙ none
 pub settled_is : (s : Session) → s.waiting ≡ None → settled s ≡ s
 settled_is s none = ap (λ (w : Option Waiting). let t : Session = record s { waiting = w } in t) (sym none)
 
--- a turn that leaves the session with its number, and with what waits in it
+-- a plan that leaves the session with its number, and with what waits in it
 abbrev KeepsAfter : Session → After → Type 0
 KeepsAfter s Same = Unit {0}
 KeepsAfter s (Leaves t) = IsSameBut s t
 KeepsAfter s Ends = Unit {0}
 KeepsAfter s (Opens t) = Unit {0}
 
-abbrev Keeps : Session → Turn → Type 0
-Keeps s (Done plan) = KeepsAfter s plan.after
-Keeps s (Asks call after) = Unit {0}
+abbrev Keeps : Session → Plan → Type 0
+Keeps s plan = KeepsAfter s plan.after
 
 keeps_reference : (kind : Kind) (s : Session) (o : Option (Identifier × Handed)) → Keeps s (with_reference kind s o)
 keeps_reference kind s None = record { number = refl; waiting = refl }
@@ -57,17 +56,17 @@ keeps_references : (s : Session) (o : Option (List Identifier × Handed)) → Ke
 keeps_references s None = record { number = refl; waiting = refl }
 keeps_references s (Some handed) = record { number = refl; waiting = refl }
 
-keeps_first : (s : Session) (o : Option ℕ) → Keeps s (first_turn s o)
+keeps_first : (s : Session) (o : Option ℕ) → Keeps s (first_plan s o)
 keeps_first s None = record { number = refl; waiting = refl }
 keeps_first s (Some node) = keeps_reference Element s (handed s.known Element (named current_document node))
 
-pub keeps_nodes : (wanted : Wanted) (s : Session) (nodes : List ℕ) → Keeps s (nodes_turn wanted s nodes)
+pub keeps_nodes : (wanted : Wanted) (s : Session) (nodes : List ℕ) → Keeps s (nodes_plan wanted s nodes)
 keeps_nodes First s nodes = keeps_first s (first_of_list nodes)
 keeps_nodes All s nodes = keeps_references s (handed_all s.known Element current_document nodes)
 
-pub left_settled : (wanted : Wanted) (s left : Session) (nodes : List ℕ) (reply : Reply) → s.waiting ≡ None → nodes_turn wanted s nodes ≡ at_once reply (Leaves left) → left.waiting ≡ None
+pub left_settled : (wanted : Wanted) (s left : Session) (nodes : List ℕ) (reply : Reply) → s.waiting ≡ None → nodes_plan wanted s nodes ≡ at_once reply (Leaves left) → left.waiting ≡ None
 left_settled wanted s left nodes reply none is =
-    let P : Turn → Type 0 = Keeps s in
+    let P : Plan → Type 0 = Keeps s in
     let kept : IsSameBut s left = subst P is (keeps_nodes wanted s nodes) in
     kept.waiting ∙ none
 
@@ -119,8 +118,8 @@ module _ (find : FindWait) (s : Session) (none : s.waiting ≡ None) (fits : Fin
   find_back new rest (HasEnded end left nodes reply a gives ends answers new_is) plan =
       let idle = left_settled find.wanted end left nodes reply (settled_after s end (soonest find.until s.page.pending) none a) answers in
       let P : Session → Type 0 = λ t. IsPlanOf t rest in
-      let over : rest ≡ plan_at_once reply (Leaves (settled left)) = subst P new_is plan in
-      let answer : nodes_turn find.wanted end nodes ≡ at_once reply (Leaves (settled left)) = answers ∙ ap (λ (t : Session). at_once reply (Leaves t)) (sym (settled_is left idle)) in
+      let over : rest ≡ at_once reply (Leaves (settled left)) = subst P new_is plan in
+      let answer : nodes_plan find.wanted end nodes ≡ at_once reply (Leaves (settled left)) = answers ∙ ap (λ (t : Session). at_once reply (Leaves t)) (sym (settled_is left idle)) in
       let Q : Plan → Type 0 = λ p. IsPlanOf (with_waiting s (Find find)) (record p { begun = Some (settled s); stages = record { moment = soonest find.until s.page.pending; session = end } ∷ p.stages }) in
       let R : Session → Type 0 = λ t. FindPlan find t (record { reply = reply; after = Leaves (settled left); begun = Some t; stages = record { moment = soonest find.until s.page.pending; session = end } ∷ [] }) in
       record {
@@ -181,7 +180,7 @@ step_apt old m new apt steps = steps_apt old.waiting (settled old) m new apt ste
 find_number : (find : FindWait) (s new : Session) (m : ℕ) → FindSteps find s m new → new.number ≡ s.number
 find_number find s new m (GoesOn mid a gives short new_is) = ap (λ (t : Session). t.number) new_is ∙ ap (λ (t : Session). t.number) a.kept
 find_number find s new m (HasEnded end left nodes reply a gives ends answers new_is) =
-    let P : Turn → Type 0 = Keeps end in
+    let P : Plan → Type 0 = Keeps end in
     let kept : IsSameBut end left = subst P answers (keeps_nodes find.wanted end nodes) in
     ap (λ (t : Session). t.number) new_is ∙ kept.number ∙ ap (λ (t : Session). t.number) a.kept
 
@@ -287,9 +286,9 @@ ends_back r a b (Goes s t u m first within step more) apt rest is idle over =
 pub ends_carried : (r : ℕ) (a b left : Session) (reply : Reply) → Reaches next_moment StepsAt r a b → Apt a → b ≡ with_waiting left (Ended reply) → left.waiting ≡ None
     → EndsBy (IsPlanOf a) r reply (Leaves left)
 ends_carried r a b left reply reaches apt ended idle =
-    let P : Session → Type 0 = λ t. IsPlanOf t (plan_at_once reply (Leaves left)) in
-    let there : IsPlanOf (with_waiting left (Ended reply)) (plan_at_once reply (Leaves left)) = ap (λ (t : Session). plan_at_once reply (Leaves t)) (sym (settled_is left idle)) in
-    ends_back r a b reaches apt (plan_at_once reply (Leaves left)) (subst P (sym ended) there) idle refl
+    let P : Session → Type 0 = λ t. IsPlanOf t (at_once reply (Leaves left)) in
+    let there : IsPlanOf (with_waiting left (Ended reply)) (at_once reply (Leaves left)) = ap (λ (t : Session). at_once reply (Leaves t)) (sym (settled_is left idle)) in
+    ends_back r a b reaches apt (at_once reply (Leaves left)) (subst P (sym ended) there) idle refl
 
 pub none_left : (s : Session) → s.waiting ≡ None → left_of s ≡ 0
 none_left s none = ap (λ (w : Option Waiting). left_in w s.page) none

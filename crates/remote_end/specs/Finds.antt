@@ -1,7 +1,8 @@
 -- What the six finds answer, and when (Recommendation, section 12; WebDriver Level 2 for shadow roots).
 use Rattle.std.specs.Prelude.{◌≡◌, ℕ, List, [], ◌∷◌, Option, Some, None, Result, Ok, Err, codes, if◌then◌else◌}
-use Rattle.std.specs.Option.{unwrap_or}
+use Rattle.std.specs.Option.{unwrap_or, option_and_then}
 use Rattle.std.specs.Str.{bytes_eq, chars}
+use Rattle.capabilities.specs.Values.{text_of, members_of, value_of}
 use Rattle.interaction.specs.Found.{Refuses}
 use Rattle.interaction.specs.declared.by.By.{By}
 use Rattle.interaction.specs.declared.by.By.TheVariants.{Css, Link, PartialLink, Tag}
@@ -22,8 +23,8 @@ use Rattle.remote_end.specs.declared.finds.Wanted.TheVariants.{First, All}
 use Rattle.remote_end.specs.declared.session.Session.{Session}
 use Rattle.remote_end.specs.declared.waiting.FindWait.{FindWait}
 use Rattle.remote_end.specs.State.{Leaves}
-use Rattle.remote_end.specs.Plan.{Stage, Plan, Turn, Done, at_once}
-use Rattle.remote_end.specs.Built.{text_at}
+use Rattle.remote_end.specs.Outside.{Call}
+use Rattle.remote_end.specs.Plan.{Stage, Plan, at_once, AsksNothing}
 use Rattle.remote_end.specs.FindSpans.{FindEnds, Passes}
 use Rattle.remote_end.specs.Elements.{current_document}
 use Rattle.remote_end.specs.Handing.{with_reference}
@@ -31,6 +32,10 @@ use Rattle.remote_end.specs.Replies.{success, failure}
 use Rattle.remote_end.specs.Values.{reference_values}
 
 -- ---- what a find is asked
+
+-- the text of a parameter, in UTF-8
+abbrev pub text_at : List ℕ → Json → Option (List ℕ)
+text_at name parameters = option_and_then text_of (value_of name (members_of parameters))
 
 -- the location strategy of a word
 abbrev pub strategy_of : List ℕ → By
@@ -49,18 +54,18 @@ value_in parameters = unwrap_or (text_at (codes "value") parameters) []
 -- ---- what it answers
 
 -- the reference of the first node
-abbrev pub first_turn : Session → Option ℕ → Turn
-first_turn s None = at_once (failure NoSuchElement) (Leaves s)
-first_turn s (Some node) = with_reference Element s (handed s.known Element (named current_document node))
+abbrev pub first_plan : Session → Option ℕ → Plan
+first_plan s None = at_once (failure NoSuchElement) (Leaves s)
+first_plan s (Some node) = with_reference Element s (handed s.known Element (named current_document node))
 
 -- the references of all, in their order; too few serials are left where there are none
-abbrev pub with_references : Session → Option (List Identifier × Handed) → Turn
+abbrev pub with_references : Session → Option (List Identifier × Handed) → Plan
 with_references s None = at_once (failure UnknownError) (Leaves s)
 with_references s (Some (ids, known)) = at_once (success (ListValue (reference_values ids))) (Leaves (record s { known = known }))
 
-abbrev pub nodes_turn : Wanted → Session → List ℕ → Turn
-nodes_turn First s nodes = first_turn s (first_of_list nodes)
-nodes_turn All s nodes = with_references s (handed_all s.known Element current_document nodes)
+abbrev pub nodes_plan : Wanted → Session → List ℕ → Plan
+nodes_plan First s nodes = first_plan s (first_of_list nodes)
+nodes_plan All s nodes = with_references s (handed_all s.known Element current_document nodes)
 
 -- a plan with next moments says how the session stands before the first
 abbrev pub BegunIs : List Stage → Option Session → Session → Type 0
@@ -74,7 +79,7 @@ pub record FindPlan (find : FindWait) (s : Session) (plan : Plan) : Type 0 where
   pub begun : BegunIs plan.stages plan.begun s
   pub ends : FindEnds find s end nodes
   pub passes : Passes find.until s plan.stages end
-  pub answers : nodes_turn find.wanted end nodes ≡ at_once plan.reply plan.after
+  pub answers : nodes_plan find.wanted end nodes ≡ at_once plan.reply plan.after
 
 -- the find that a command asks for, below a node or in the document, for as long as the implicit timeout
 abbrev pub find_of : Wanted → Session → Option NodeName → Json → FindWait
@@ -87,11 +92,13 @@ find_of wanted s start parameters = record {
 }
 
 -- It is refused at once where its text is to be a selector and is none.
-pub data IsFind (find : FindWait) (s : Session) (turn : Turn) : Type 0 where
-  Refused : Refuses find.by find.text Invalid → turn ≡ at_once (failure InvalidSelector) (Leaves s) → IsFind find s turn
-  Looks : (plan : Plan) → FindPlan find s plan → turn ≡ Done plan → IsFind find s turn
+pub data IsFind (find : FindWait) (s : Session) (asked : List Call) (plan : Plan) : Type 0 where
+  Refused : Refuses find.by find.text Invalid → AsksNothing (at_once (failure InvalidSelector) (Leaves s)) asked plan → IsFind find s asked plan
+  Looks : FindPlan find s plan → asked ≡ [] → IsFind find s asked plan
 
--- a find below a node that was looked up
-abbrev pub IsFindFrom : Wanted → Session → Result NodeName Code → Json → Turn → Type 0
-IsFindFrom wanted s (Err code) parameters turn = turn ≡ at_once (failure code) (Leaves s)
-IsFindFrom wanted s (Ok name) parameters turn = IsFind (find_of wanted s (Some name) parameters) s turn
+-- ---- for private clauses
+
+-- a find below what was looked up
+abbrev pub FindsFrom : Wanted → Session → Result NodeName Code → Json → Plan → Type 0
+FindsFrom wanted s (Err code) parameters plan = plan ≡ at_once (failure code) (Leaves s)
+FindsFrom wanted s (Ok name) parameters plan = IsFind (find_of wanted s (Some name) parameters) s [] plan

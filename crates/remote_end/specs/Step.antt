@@ -5,32 +5,23 @@ use Rattle.wd_errors.specs.declared.code.Code.{Code}
 use Rattle.wd_http.specs.declared.request.Request.{Request}
 use Rattle.remote_end.specs.declared.reply.Reply.{Reply}
 use Rattle.remote_end.specs.declared.order.Order.{Order}
+use Rattle.remote_end.specs.declared.outcome.Outcome.{Outcome as RowOutcome}
+use Rattle.remote_end.specs.declared.outcome.Outcome.TheVariants.{Replied as RowReplied, Ended as RowEnded, Waits as RowWaits}
 use Rattle.remote_end.specs.declared.session.Session.{Session}
 use Rattle.remote_end.specs.declared.step.Step.{Step as Outcome}
 use Rattle.remote_end.specs.declared.step.Step.TheVariants.{Reply as Replied, Wait}
-use Rattle.remote_end.specs.Setting.{Setting}
+use Rattle.remote_end.specs.declared.setting.Setting.{Setting}
 use Rattle.remote_end.specs.State.{State, After, Same, Leaves, Ends, Opens, own_place, place_numbered, session_named, changed}
-use Rattle.remote_end.specs.Plan.{Stage, Plan, Turn, Done, Asks, plan_at_once, at_once}
+use Rattle.remote_end.specs.Outside.{Call, Now, Rest}
+use Rattle.remote_end.specs.Plan.{Stage, Plan, at_once, AsksNothing}
 use Rattle.remote_end.specs.Moments.{start_of, next_after}
 use Rattle.remote_end.specs.Advance.{Advanced}
 use Rattle.remote_end.specs.Replies.{failure}
 use Rattle.remote_end.specs.Meaning.{Means, target_bytes}
 use Rattle.remote_end.specs.Naming.{session_of}
-use Rattle.remote_end.specs.Rows.{turn_alone, IsTurnIn}
+use Rattle.remote_end.specs.Rows.{row_of, IsOwn, IsAlone}
 use Rattle.remote_end.specs.Waits.{IsPlanOf, next_moment, busy_of, left_of}
 use Rattle.remote_end.specs.Carried.{LeavesIdle, ComesTo}
-
--- A call of the outside: a reading of the clock, the answer to a script, or a rest that asked for a moment
--- and what the clock then read.
-pub data Call : Type 0 where
-  Now : ℕ → Call
-  Script : ℕ → ℕ → Call
-  Rest : ℕ → ℕ → Call
-
--- the plan of a turn, over the script call that it makes, if it makes one
-abbrev pub Plays : Turn → List Call → Plan → Type 0
-Plays (Done p) calls plan = (calls ≡ []) × (plan ≡ p)
-Plays (Asks script after) calls plan = (answer : ℕ) × (calls ≡ Script script answer ∷ []) × (plan ≡ after answer)
 
 -- a rest is made exactly while there is a later next moment; it asks for that moment
 abbrev pub Rests : List Stage → ℕ → List Call → Type 0
@@ -38,38 +29,39 @@ Rests stages reached [] = next_after stages reached ≡ None
 Rests stages reached (Rest asked answer ∷ calls) =
     (next_after stages reached ≡ Some asked) × (asked ≤ answer) × Rests stages (max reached answer) calls
 Rests stages reached (Now answer ∷ calls) = ⊥
-Rests stages reached (Script asked answer ∷ calls) = ⊥
+
+-- what a command does of a session that stands at its start
+abbrev pub IsRow : Setting → Order → Session → List Call → Plan → Type 0
+IsRow setting order s asked plan = IsOwn (row_of order.route.command) setting order s asked plan
 
 -- What a command does that is begun with a reading, without a session or of the session that it names, which
 -- first advances to the command's start.
-abbrev pub IsTurnOf : Setting → State → Order → ℕ → Option Session → Turn → Type 0
-IsTurnOf setting state order reading None turn = turn ≡ turn_alone setting state order.parameters reading order.route.command
-IsTurnOf setting state order reading (Some s) turn =
-    (begun : Session) × Advanced s (start_of (Some s) reading) begun × IsTurnIn order begun order.route.command turn
+abbrev pub IsActOf : Setting → State → Order → ℕ → Option Session → List Call → Plan → Type 0
+IsActOf setting state order reading None asked plan = IsAlone (row_of order.route.command) setting state order.parameters reading asked plan
+IsActOf setting state order reading (Some s) asked plan =
+    (begun : Session) × Advanced s (start_of (Some s) reading) begun × IsRow setting order begun asked plan
 
 -- what a request does that is begun with a reading; one that is refused advances no session
-abbrev pub IsTurnFor : Setting → State → Result Order Code → ℕ → Turn → Type 0
-IsTurnFor setting state (Ok order) reading turn = IsTurnOf setting state order reading (session_named order.route.session state.sessions) turn
-IsTurnFor setting state (Err code) reading turn = turn ≡ at_once (failure code) Same
+abbrev pub IsActFor : Setting → State → Result Order Code → ℕ → List Call → Plan → Type 0
+IsActFor setting state (Ok order) reading asked plan = IsActOf setting state order reading (session_named order.route.session state.sessions) asked plan
+IsActFor setting state (Err code) reading asked plan = AsksNothing (at_once (failure code) Same) asked plan
 
 -- the session that a command names
 abbrev pub own : Result Order Code → Option (List ℕ)
 own (Ok order) = order.route.session
 own (Err code) = None
 
--- A request is answered: it is read as a command or refused, the clock is read once, the command's script is
--- answered and its rests are made, and the reply and the next state are those of its plan.
+-- A request is answered: it is read as a command or refused, the clock is read once, its row asks the outside for
+-- what it needs, its rests are made, and the reply and the next state are those of its plan.
 pub record Step (setting : Setting) (old : State) (request : Request) (calls : List Call) (reply : Reply) (new : State) : Type 0 where
   pub meaning : Result Order Code
   pub means : Means old request meaning
   pub reading : ℕ
   pub asked : List Call
   pub rests : List Call
-  pub turn : Turn
-  pub turn_is : IsTurnFor setting old meaning reading turn
   pub plan : Plan
+  pub act : IsActFor setting old meaning reading asked plan
   pub calls_are : calls ≡ Now reading ∷ asked ++ rests
-  pub plays : Plays turn asked plan
   pub waits : Rests plan.stages (start_of (session_named (own meaning) old.sessions) reading) rests
   pub reply_is : reply ≡ plan.reply
   pub new_is : new ≡ changed old (own meaning) plan.after
@@ -90,7 +82,7 @@ pub record Begins (setting : Setting) (old : State) (request : Request) (reading
   pub meaning : Result Order Code
   pub means : Means old request meaning
   pub after : After
-  pub comes : ComesTo (λ plan. IsTurnFor setting old meaning reading (Done plan)) (start_of (session_named (own meaning) old.sessions) reading) outcome after
+  pub comes : ComesTo (IsActFor setting old meaning reading []) (start_of (session_named (own meaning) old.sessions) reading) outcome after
   pub named : IsNamed outcome (own meaning) old.sessions
   pub new_is : new ≡ changed old (own meaning) after
 
@@ -121,14 +113,21 @@ IsFree state request = (number : ℕ) → session_of (target_bytes request) stat
 -- a command, begun with a reading, comes to this
 pub record ActsAt (setting : Setting) (old : State) (order : Order) (reading : ℕ) (new : State) (outcome : Outcome) : Type 0 where
   pub after : After
-  pub comes : ComesTo (λ plan. IsTurnOf setting old order reading (session_named order.route.session old.sessions) (Done plan)) (start_of (session_named order.route.session old.sessions) reading) outcome after
+  pub comes : ComesTo (IsActOf setting old order reading (session_named order.route.session old.sessions) []) (start_of (session_named order.route.session old.sessions) reading) outcome after
   pub named : IsNamed outcome order.route.session old.sessions
   pub new_is : new ≡ changed old order.route.session after
 
--- a turn that ends at once, with this reply, and what it leaves of sessions
-pub record EndsWith (turn : Turn) (old : State) (named : Option (List ℕ)) (new : State) (reply : Reply) : Type 0 where
+-- a plan that ends at once, with this reply, and what it leaves of sessions
+pub record EndsWith (plan : Plan) (old : State) (named : Option (List ℕ)) (new : State) (reply : Reply) : Type 0 where
   pub after : After
-  pub turn_is : turn ≡ at_once reply after
+  pub plan_is : plan ≡ at_once reply after
+  pub idle : LeavesIdle after
+  pub new_is : new ≡ changed old named after
+
+-- a command without a session ends at once, with this reply
+pub record RunsAlone (setting : Setting) (order : Order) (reading : ℕ) (old : State) (named : Option (List ℕ)) (new : State) (reply : Reply) : Type 0 where
+  pub after : After
+  pub act : IsAlone (row_of order.route.command) setting old order.parameters reading [] (at_once reply after)
   pub idle : LeavesIdle after
   pub new_is : new ≡ changed old named after
 
@@ -144,23 +143,25 @@ NumberIs (Replied reply) s = Unit {0}
 NumberIs (Wait number until) s = number ≡ s.number
 
 -- a command of the session at that place comes to this
-pub record RunsAt (order : Order) (reading : ℕ) (old : List Session) (place : ℕ) (new : List Session) (outcome : Outcome) : Type 0 where
+pub record RunsAt (setting : Setting) (order : Order) (reading : ℕ) (old : List Session) (place : ℕ) (new : List Session) (outcome : Outcome) : Type 0 where
   pub session : Session
   pub here : slice_get old place ≡ Some session
   pub begun : Session
   pub advanced : Advanced session (start_of (Some session) reading) begun
   pub after : After
-  pub comes : ComesTo (λ plan. IsTurnIn order begun order.route.command (Done plan)) (start_of (Some session) reading) outcome after
+  pub comes : ComesTo (IsRow setting order begun []) (start_of (Some session) reading) outcome after
   pub number : NumberIs outcome session
   pub left : AreLeft old place new after
 
--- a row has this reply at once, or its command waits in its session, with one of these plans
-abbrev pub RowComes : (Plan → Type 0) → Option Reply → Session → Type 0
-RowComes IsPlan (Some reply) new = IsPlan (plan_at_once reply (Leaves new))
-RowComes IsPlan None new = (plan : Plan) → IsPlanOf new plan → IsPlan plan
+-- A row has a reply, which leaves the session or ends it, at once, or its command waits in the session with one of
+-- these plans.
+abbrev pub RowComes : (Plan → Type 0) → RowOutcome → Session → Type 0
+RowComes IsPlan (RowReplied reply) new = IsPlan (at_once reply (Leaves new))
+RowComes IsPlan (RowEnded reply) new = IsPlan (at_once reply Ends)
+RowComes IsPlan RowWaits new = (plan : Plan) → IsPlanOf new plan → IsPlan plan
 
--- the command of a session, begun at a moment, has this reply at once or waits
-pub record BeginsIn (order : Order) (start : ℕ) (old : Session) (reply : Option Reply) (new : Session) : Type 0 where
+-- the command of a session, begun at a moment, comes to this
+pub record BeginsIn (setting : Setting) (order : Order) (start : ℕ) (old : Session) (outcome : RowOutcome) (new : Session) : Type 0 where
   pub begun : Session
   pub advanced : Advanced old start begun
-  pub comes : RowComes (λ plan. IsTurnIn order begun order.route.command (Done plan)) reply new
+  pub comes : RowComes (IsRow setting order begun []) outcome new

@@ -8,16 +8,18 @@ use Rattle.waits.specs.Moments.{last_moment}
 use Rattle.wd_http.specs.Sent.{is_status}
 use Rattle.selectors.specs.Grammar.{GrammarIs}
 use Rattle.selectors.specs.declared.selector.Complex.{Complex}
+use Rattle.remote_end.specs.declared.outcome.Outcome.{Outcome}
+use Rattle.remote_end.specs.declared.outcome.Outcome.TheVariants.{Replied, Ended as HasEndedSession, Waits}
 use Rattle.remote_end.specs.declared.reply.Reply.{Reply}
 use Rattle.remote_end.specs.declared.session.Session.{Session}
 use Rattle.remote_end.specs.declared.waiting.FindWait.{FindWait}
 use Rattle.remote_end.specs.declared.waiting.Waiting.{Waiting}
 use Rattle.remote_end.specs.declared.waiting.Waiting.TheVariants.{Find, Ended}
 use Rattle.remote_end.specs.State.{Leaves, session_numbered, IsWhole}
-use Rattle.remote_end.specs.Plan.{Plan, plan_at_once, at_once}
+use Rattle.remote_end.specs.Plan.{Plan, at_once}
 use Rattle.remote_end.specs.Advance.{Advanced, NoneDue}
 use Rattle.remote_end.specs.FindSpans.{Gives, EndsAt, soonest}
-use Rattle.remote_end.specs.Finds.{nodes_turn, FindPlan}
+use Rattle.remote_end.specs.Finds.{nodes_plan, FindPlan}
 
 -- the session without its command
 abbrev pub settled : Session → Session
@@ -31,7 +33,7 @@ with_waiting s waiting = record s { waiting = Some waiting }
 abbrev pub PlansIn : Option Waiting → Session → Plan → Type 0
 PlansIn None s plan = ⊥
 PlansIn (Some (Find find)) s plan = FindPlan find s plan
-PlansIn (Some (Ended reply)) s plan = plan ≡ plan_at_once reply (Leaves s)
+PlansIn (Some (Ended reply)) s plan = plan ≡ at_once reply (Leaves s)
 
 -- the plan of the command that waits in a session, from here on
 abbrev pub IsPlanOf : Session → Plan → Type 0
@@ -76,7 +78,7 @@ pub data FindSteps (find : FindWait) (old : Session) (moment : ℕ) (new : Sessi
   GoesOn : (mid : Session) → Advanced old moment mid → Gives find mid.page.rows [] → moment < find.until
       → new ≡ with_waiting mid (Find find) → FindSteps find old moment new
   HasEnded : (end left : Session) (nodes : List ℕ) (reply : Reply) → Advanced old moment end → Gives find end.page.rows nodes → EndsAt find nodes moment
-      → nodes_turn find.wanted end nodes ≡ at_once reply (Leaves left) → new ≡ with_waiting left (Ended reply) → FindSteps find old moment new
+      → nodes_plan find.wanted end nodes ≡ at_once reply (Leaves left) → new ≡ with_waiting left (Ended reply) → FindSteps find old moment new
 
 abbrev pub StepsIn : Option Waiting → Session → ℕ → Session → Type 0
 StepsIn None old moment new = ⊥
@@ -136,7 +138,8 @@ pub record IsGoing (s : Session) : Type 0 where
   pub fits : FitsOrEnded s.waiting s.page s.at
   pub status : EndedWell s.waiting
 
--- a row that answers leaves nothing waiting in the session
-abbrev pub RowLeaves : Option Reply → Session → Type 0
-RowLeaves (Some reply) s = (s.waiting ≡ None) × IsTrue (is_status reply.status)
-RowLeaves None s = IsGoing s
+-- a row that replies leaves nothing waiting in the session
+abbrev pub RowLeaves : Outcome → Session → Type 0
+RowLeaves (Replied reply) s = (s.waiting ≡ None) × IsTrue (is_status reply.status)
+RowLeaves (HasEndedSession reply) s = IsTrue (is_status reply.status)
+RowLeaves Waits s = IsGoing s

@@ -1,22 +1,23 @@
-ghost use Rattle.std.specs.Prelude.{◌≡◌, ◌≤◌, true, IsTrue, IfOk, OnOk};
+ghost use Rattle.std.specs.Prelude.{◌≡◌, ◌≤◌, [], true, IsTrue, IfOk, OnOk};
 ghost use Rattle.references.specs.Handed.{is_node_kind};
 ghost use Rattle.selectors.specs.Named.{first_of_list};
 ghost use Rattle.waits.specs.Moments.{last_moment};
 ghost use Rattle.wd_http.specs.Sent.{is_status};
 ghost use Rattle.remote_end.specs.Elements.{looked_up};
-ghost use Rattle.remote_end.specs.Finds.{strategy_of, strategy_in, value_in, first_turn, nodes_turn, find_of, IsFind, IsFindFrom};
+ghost use Rattle.remote_end.specs.Finds.{strategy_of, strategy_in, value_in, first_plan, nodes_plan, find_of, IsFind, FindsFrom};
 ghost use Rattle.remote_end.specs.Advance.{NoneDue};
 ghost use Rattle.remote_end.specs.FindSpans.{StartsIn};
-ghost use Rattle.remote_end.specs.Plan.{Done, at_once};
+ghost use Rattle.remote_end.specs.Plan.{at_once};
 ghost use Rattle.remote_end.specs.Step.{RowComes};
 ghost use Rattle.remote_end.specs.Waits.{RowLeaves};
 ghost use Rattle.remote_end.specs.State.{Leaves, IsWhole, IsSameBut};
 ghost use Rattle.remote_end.specs.Values.{reference_values};
 
-use crate::built::text_at;
 use crate::handing::{handed_reply, reference_value};
 use crate::looks::{goes_on, look};
 use crate::lookups::looked_up;
+use crate::outcome::Outcome;
+use crate::parameter::text_at;
 use crate::reply::{Reply, failure, success};
 use crate::session::Session;
 use crate::waiting::{FindWait, Waiting};
@@ -84,7 +85,7 @@ fn first_of(nodes: &NodeList) -> Option<NodeId>
 /// The first node that was found.
 fn first_reply(alloc: Global, session: &mut Session, nodes: &NodeList) -> Result<Reply, Memory>
     requires { IsWhole session.old }
-    ensures turn { IfOk result (λ reply. first_turn session.old (first_of_list nodes.now) ≡ at_once reply (Leaves session.new)) }
+    ensures turn { IfOk result (λ reply. first_plan session.old (first_of_list nodes.now) ≡ at_once reply (Leaves session.new)) }
     ensures whole { OnOk result (IsWhole session.new) }
     ensures kept { OnOk result (IsSameBut session.old session.new) }
     ensures status { IfOk result (λ reply. IsTrue (is_status reply.status)) }
@@ -108,7 +109,7 @@ fn reference_list(alloc: Global, ids: &IdList) -> Result<JsonList, Memory>
 /// All nodes that were found.
 fn all_reply(alloc: Global, session: &mut Session, nodes: &NodeList) -> Result<Reply, Memory>
     requires { IsWhole session.old }
-    ensures turn { IfOk result (λ reply. nodes_turn Wanted.All session.old nodes.now ≡ at_once reply (Leaves session.new)) }
+    ensures turn { IfOk result (λ reply. nodes_plan Wanted.All session.old nodes.now ≡ at_once reply (Leaves session.new)) }
     ensures whole { OnOk result (IsWhole session.new) }
     ensures kept { OnOk result (IsSameBut session.old session.new) }
     ensures status { IfOk result (λ reply. IsTrue (is_status reply.status)) }
@@ -130,7 +131,7 @@ pub(crate) fn nodes_reply(
     nodes: &NodeList,
 ) -> Result<Reply, Memory>
     requires { IsWhole session.old }
-    ensures turn { IfOk result (λ reply. nodes_turn wanted session.old nodes.now ≡ at_once reply (Leaves session.new)) }
+    ensures turn { IfOk result (λ reply. nodes_plan wanted session.old nodes.now ≡ at_once reply (Leaves session.new)) }
     ensures whole { OnOk result (IsWhole session.new) }
     ensures kept { OnOk result (IsSameBut session.old session.new) }
     ensures status { IfOk result (λ reply. IsTrue (is_status reply.status)) }
@@ -143,30 +144,30 @@ pub(crate) fn nodes_reply(
 
 /// Begins a find: `invalid selector` where its text is to be a selector and is none; else it answers what it gives,
 /// or waits where it gives nothing and its span isn't over.
-fn begin_find(alloc: Global, session: &mut Session, find: FindWait) -> Result<Option<Reply>, Memory>
+fn begin_find(alloc: Global, session: &mut Session, find: FindWait) -> Result<Outcome, Memory>
     requires whole { IsWhole session.old }
     requires idle { session.old.waiting ≡ None }
     requires still { NoneDue session.old.page.pending session.old.at }
     requires starts { StartsIn find.start session.old.page.rows }
     requires onwards { session.old.at ≤ find.until }
     requires within { find.until ≤ last_moment }
-    ensures comes { IfOk result (λ reply. RowComes (λ plan. IsFind find session.old (Done plan)) reply session.new) }
-    ensures leaves { IfOk result (λ reply. RowLeaves reply session.new) }
+    ensures comes { IfOk result (λ outcome. RowComes (IsFind find session.old []) outcome session.new) }
+    ensures leaves { IfOk result (λ outcome. RowLeaves outcome session.new) }
     ensures kept { OnOk result (IsWhole session.new × (session.new.number ≡ session.old.number)) }
 {
     match look(alloc, session.page.document(), &find) {
         Ok(nodes) => {
             if goes_on(&nodes, session.at, &find) {
                 session.waiting = Some(Waiting::Find(find));
-                Ok(None)
+                Ok(Outcome::Waits)
             } else {
                 let reply = nodes_reply(alloc, session, find.wanted, &nodes)?;
-                Ok(Some(reply))
+                Ok(Outcome::Replied(reply))
             }
         }
         Err(SelFault::Invalid) => {
             let reply = failure(alloc, Code::InvalidSelector)?;
-            Ok(Some(reply))
+            Ok(Outcome::Replied(reply))
         }
         Err(SelFault::Memory) => Err(Memory),
     }
@@ -201,18 +202,18 @@ pub(crate) fn find_in(
     wanted: Wanted,
     start: Option<NodeName>,
     parameters: &Json,
-) -> Result<Option<Reply>, Memory>
+) -> Result<Outcome, Memory>
     requires whole { IsWhole session.old }
     requires idle { session.old.waiting ≡ None }
     requires still { NoneDue session.old.page.pending session.old.at }
     requires starts { StartsIn start session.old.page.rows }
-    ensures comes { IfOk result (λ reply. RowComes (λ plan. IsFind (find_of wanted session.old start parameters.now) session.old (Done plan)) reply session.new) }
-    ensures leaves { IfOk result (λ reply. RowLeaves reply session.new) }
+    ensures comes { IfOk result (λ outcome. RowComes (IsFind (find_of wanted session.old start parameters.now) session.old []) outcome session.new) }
+    ensures leaves { IfOk result (λ outcome. RowLeaves outcome session.new) }
     ensures kept { OnOk result (IsWhole session.new × (session.new.number ≡ session.old.number)) }
 {
     let find = find_of(alloc, session, wanted, start, parameters)?;
-    let reply = begin_find(alloc, session, find)?;
-    Ok(reply)
+    let outcome = begin_find(alloc, session, find)?;
+    Ok(outcome)
 }
 
 /// A find below an element or a shadow root, which is looked up first.
@@ -223,23 +224,23 @@ pub(crate) fn find_from(
     kind: Kind,
     item: &str,
     parameters: &Json,
-) -> Result<Option<Reply>, Memory>
+) -> Result<Outcome, Memory>
     requires whole { IsWhole session.old }
     requires idle { session.old.waiting ≡ None }
     requires still { NoneDue session.old.page.pending session.old.at }
     requires node_kind { is_node_kind kind ≡ true }
-    ensures comes { IfOk result (λ reply. RowComes (λ plan. IsFindFrom wanted session.old (looked_up kind session.old item.now) parameters.now (Done plan)) reply session.new) }
-    ensures leaves { IfOk result (λ reply. RowLeaves reply session.new) }
+    ensures comes { IfOk result (λ outcome. RowComes (FindsFrom wanted session.old (looked_up kind session.old item.now) parameters.now) outcome session.new) }
+    ensures leaves { IfOk result (λ outcome. RowLeaves outcome session.new) }
     ensures kept { OnOk result (IsWhole session.new × (session.new.number ≡ session.old.number)) }
 {
     match looked_up(session, kind, item) {
         Ok(name) => {
-            let reply = find_in(alloc, session, wanted, Some(name), parameters)?;
-            Ok(reply)
+            let outcome = find_in(alloc, session, wanted, Some(name), parameters)?;
+            Ok(outcome)
         }
         Err(code) => {
             let reply = failure(alloc, code)?;
-            Ok(Some(reply))
+            Ok(Outcome::Replied(reply))
         }
     }
 }

@@ -20,18 +20,22 @@ mod meaning;
 mod naming;
 mod opening;
 mod order;
+mod outcome;
+mod parameter;
 mod remote;
 mod reply;
 mod resuming;
 mod rows;
 mod run;
 mod session;
+mod setting;
 mod status;
 mod step;
 mod taken;
 mod timeouts;
 mod titles;
 mod waiting;
+mod windows;
 
 pub use evaluator::Evaluator;
 pub use laws::{
@@ -43,6 +47,3 @@ pub use remote::Remote;
 pub use reply::{Reply, bad_reply};
 pub use step::Step;
 pub use taken::{Taken, TakenList};
-
-#[cfg(test)]
-mod tests;

@@ -6,6 +6,7 @@ ghost use Rattle.remote_end.specs.Naming.{session_of};
 ghost use Rattle.remote_end.specs.Waits.{busy_of};
 ghost use Rattle.remote_end.specs.declared.taken.Taken.TheVariants.{Reading};
 ghost use Rattle.remote_end.specs.Standing.{initial, IsReady};
+ghost use Rattle.remote_end.specs.Outside.{outside};
 ghost use Rattle.remote_end.specs.Runs.{Answers};
 ghost use Rattle.page_engine.specs.Sites.{IsLawfulSite};
 ghost use Rattle.wd_http.specs.Sent.{is_status};
@@ -16,6 +17,7 @@ use crate::reply::Reply;
 use crate::resuming::{busy, resume};
 use crate::run::begin;
 use crate::session::Session;
+use crate::setting::Setting;
 use crate::step::Step;
 use crate::taken::{Taken, TakenList};
 use capabilities::Offer;
@@ -32,9 +34,7 @@ use wd_json::{Memory, WdText};
 pub struct Remote {
     alloc: Global,
     endpoints: Endpoints,
-    site: Site,
-    offer: Offer,
-    run: u64,
+    setting: Setting,
     next: u32,
     sessions: Vec<Session>,
     taken: TakenList,
@@ -54,13 +54,13 @@ impl Model for Remote {
     ghost coded = { Prim.hlevel (codes, json.the_row.coded, effect.the_row.coded) };
 
     ghost view = { λ r. record {
-      setting = record { site = r.site; name = r.offer.name; run = r.run };
+      setting = r.setting;
       state = record { next = r.next; sessions = r.sessions.items };
       taken = r.taken;
       spent = r.spent;
     } };
 
-    ghost invariant = { λ r. IsLawfulSite r.site × (r.run < 2 ^ 48) × (r.spent ≡ false → AreSound r.next r.sessions.items) };
+    ghost invariant = { λ r. IsLawfulSite r.setting.site × (r.setting.run < 2 ^ 48) × (r.spent ≡ false → AreSound r.next r.sessions.items) };
 }
 
 impl Remote {
@@ -74,9 +74,11 @@ impl Remote {
         Ok(Remote {
             alloc,
             endpoints: Endpoints::new(alloc)?,
-            site,
-            offer: Offer { name },
-            run,
+            setting: Setting {
+                site,
+                offer: Offer { name },
+                run,
+            },
             next: 1,
             sessions: Vec::new(alloc),
             taken: TakenList::new(alloc),
@@ -162,6 +164,7 @@ impl Remote {
         ensures begins { IfOk result (Begins self.old.setting self.old.state request.now now self.new.state) }
         ensures kept { OnOk result (self.new ≡ record self.old { state = self.new.state; taken = self.old.taken ++ Reading now ∷ [] }) }
         ensures status { IfOk result HasStatus }
+        ensures evaluator { evaluator.new ≡ evaluator.old }
         ensures memory { OnErr result (self.new.spent ≡ true) }
     {
         let _ = evaluator;
@@ -170,9 +173,7 @@ impl Remote {
         let step = begin(
             self.alloc,
             &self.endpoints,
-            &self.site,
-            &self.offer,
-            self.run,
+            &self.setting,
             &mut self.next,
             &mut self.sessions,
             request,
@@ -231,7 +232,7 @@ impl Remote {
         evaluator: &mut E,
     ) -> Result<Reply, Memory>
         requires { IsReady self.old }
-        ensures answers { IfOk result (Answers C.now_gives C.rest_gives clock.old clock.new self.old self.new request.now) }
+        ensures answers { IfOk result (Answers (outside C.now_gives C.rest_gives) (clock.old, evaluator.old) (clock.new, evaluator.new) self.old self.new request.now) }
         ensures status { IfOk result (λ reply. IsTrue (is_status reply.status)) }
         ensures memory { OnErr result (self.new.spent ≡ true) }
     {

@@ -1,8 +1,11 @@
 ghost use Rattle.std.specs.Prelude.{◌≡◌, ◌≤◌, ◌+◌, IsTrue, IfOk, OnOk, OnErr, true, false};
+ghost use Rattle.std.specs.List.{All};
 ghost use Rattle.wd_http.specs.Sent.{is_status};
 ghost use Rattle.remote_end.specs.Standing.{IsReady};
 ghost use Rattle.webdriverd.specs.Sent.{response_to};
 ghost use Rattle.webdriverd.specs.Service.{SentOn, Replies};
+ghost use Rattle.webdriverd.specs.Serving.{Handing, IsWithin, Calls};
+ghost use Rattle.remote_end.specs.Outside.{outside};
 
 use crate::json_text::json_text;
 use remote_end::{Evaluator, Remote, Reply};
@@ -13,6 +16,7 @@ use wd_json::{Memory, WdBytes};
 /// Sends all bytes, or as many as the line takes before it fails. Says whether all were sent. The line is
 /// handed all of them, and what a write didn't take is handed over again.
 pub(crate) fn send<L: Line>(line: &mut L, bytes: &[u8]) -> Result<bool, Memory>
+    ensures handed { Calls L.makes line.old line.new (Handing bytes.now) }
     ensures told { IsTrue L.tells → IfOk result (SentOn (L.talk line.old) (L.talk line.new) bytes.now) }
     ensures sent { IfOk result (λ whole. whole ≡ true → L.faults line.new ≡ L.faults line.old) }
     ensures cause { IfOk result (λ whole. whole ≡ false → L.faults line.new ≡ L.faults line.old + 1) }
@@ -52,8 +56,9 @@ pub(crate) fn reply<L: Line, C: Clock, E: Evaluator>(
     close: bool,
 ) -> Result<bool, Memory>
     requires { IsReady remote.old }
-    ensures replies { IfOk result (Replies C.now_gives C.rest_gives clock.old clock.new remote.old remote.new
-        L.tells (L.talk line.old) (L.talk line.new) request.now close) }
+    ensures replies { IfOk result (Replies (outside C.now_gives C.rest_gives) (clock.old, evaluator.old) (clock.new, evaluator.new) remote.old remote.new
+        L.makes line.old line.new L.tells (L.talk line.old) (L.talk line.new) request.now close) }
+    ensures within { Calls L.makes line.old line.new (All IsWithin) }
     ensures ready { OnOk result (IsReady remote.new) }
     ensures faults { L.faults line.old ≤ L.faults line.new }
     ensures refusals { L.refusals line.new ≡ L.refusals line.old }

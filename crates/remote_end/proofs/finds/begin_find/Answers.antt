@@ -12,7 +12,7 @@ use Rattle.remote_end.proofs.finds.begin_find.Goals as goal
 pub returns-then-goes_on-clause-comes : goal.returns-then-goes_on-clause-comes
 returns-then-goes_on-clause-comes c plan is =
     let P : Session → Type 0 = λ t. FindPlan c.args.find t plan in
-    Looks plan (subst P (settled_is c.args.session.now c.requires.idle) is) refl
+    Looks (subst P (settled_is c.args.session.now c.requires.idle) is) refl
 
 pub returns-then-goes_on-clause-leaves : goal.returns-then-goes_on-clause-leaves
 returns-then-goes_on-clause-leaves c =
@@ -39,5 +39,5 @@ returns-in-Ok-clause-comes c =
     let s = c.args.session.now in
     let rows = ap (λ (d : DocumentState). d.rows) c.document.ensures in
     let P : Rows → Type 0 = λ r. Gives c.args.find r c.in-Ok.nodes in
-    Looks _ (plan_at_once c.args.find s c.in-Ok.nodes c.in_ok-reply-in-Ok.reply (Leaves c.nodes_reply.new.session) c.requires.still (subst P rows c.in-Ok.ensures.gives)
+    Looks (plan_at_once c.args.find s c.in-Ok.nodes c.in_ok-reply-in-Ok.reply (Leaves c.nodes_reply.new.session) c.requires.still (subst P rows c.in-Ok.ensures.gives)
     (c.goes_on.ensures.over c.requires.onwards c.if-goes_on.false) c.in_ok-reply-in-Ok.ensures.turn) refl

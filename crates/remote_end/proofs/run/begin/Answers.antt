@@ -13,7 +13,7 @@ returns-in_ok-reply-in-Err-clause-begins c =
     let state : List Session → State = λ sessions. record { next = c.args.next.now; sessions = sessions } in
     let P : Result Order Code → Type 0 = Means (state c.deref.result.now) c.args.request.now in
     let Q : List Session → Type 0 = λ sessions. Means (state sessions) c.args.request.now (Err c.in-Err.code) in
-    refused_at (record { site = c.args.site.now; name = c.args.offer.now.name; run = c.args.run }) (state c.args.sessions.now.items) c.args.request.now c.args.reading c.in-Err.code c.in_ok-reply-in-Err.reply
+    refused_at c.args.setting.now (state c.args.sessions.now.items) c.args.request.now c.args.reading c.in-Err.code c.in_ok-reply-in-Err.reply
     (subst Q c.deref.ensures.value (subst P c.in-Err.is c.in_ok-order.ensures)) c.in_ok-reply-in-Err.ensures.reply
 
 pub run_order-requires-clause-free : goal.run_order-requires-clause-free
