@@ -2,8 +2,9 @@ use crate::turns::{
     ANY, BAD, FAILED, FIND, INVALID, NO_ELEMENT, NOT_FOUND, OK, OPENED, REFERENCE, Turn,
     UNSUPPORTED, converse, converse_over,
 };
-use crate::worked_site::{STALE, W_JSON, W_SITE, asked, clock, remote_over};
+use crate::worked_site::{STALE, asked, clock, remote_over};
 use std::test::Fail;
+use timed::{W_JSON, W_SITE};
 
 const FIND_ALL: &str = "/session/00000000-0001-8000-8000-000100000000/elements";
 

@@ -16,7 +16,6 @@ const UNBUILT: &[Row] = &[
     ("POST", "back", "{}"),
     ("POST", "forward", "{}"),
     ("POST", "refresh", "{}"),
-    ("GET", "window", ""),
     ("DELETE", "window", ""),
     ("POST", "window", r#"{"handle":"x"}"#),
     ("GET", "window/handles", ""),
@@ -192,7 +191,7 @@ fn an_unbuilt_command_is_unsupported_once_its_parameters_pass(rt: HostRuntime) -
     asked.push_str(requests(alloc, UNBUILT)?.as_str())?;
     asked.push_str(requests(alloc, REFUSED)?.as_str())?;
     let mut expected = response(alloc, OK, OPENED)?;
-    expected.push_str(responses(alloc, 42, FAILED, UNSUPPORTED)?.as_str())?;
+    expected.push_str(responses(alloc, 41, FAILED, UNSUPPORTED)?.as_str())?;
     expected.push_str(responses(alloc, 34, BAD, INVALID)?.as_str())?;
     let found = run(&rt, alloc, &["pipe"], asked.as_bytes(), 4096, None)?;
     assert_eq!(rt; found.status, 0);

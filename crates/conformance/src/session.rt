@@ -24,10 +24,15 @@ const TITLE: &str = "/session/00000000-0001-8000-8000-000100000000/title";
 
 const URL: &str = "/session/00000000-0001-8000-8000-000100000000/url";
 
+const WINDOW: &str = "/session/00000000-0001-8000-8000-000100000000/window";
+
+const HANDLE: &str = "{\"value\":\"00000000-0001-8001-8000-000100000001\"}";
+
 #[test]
 fn an_element_is_found_named_and_gone_with_its_session(rt: HostRuntime) -> Result<(), Fail> {
-    let turns: [Turn; 9] = [
+    let turns: [Turn; 10] = [
         ("POST", "/session", ANY, OK, OPENED),
+        ("GET", WINDOW, "", OK, HANDLE),
         ("GET", TITLE, "", OK, "{\"value\":\"Page\"}"),
         ("GET", URL, "", OK, "{\"value\":\"http://page.test/\"}"),
         (
