@@ -1,0 +1,10 @@
+pub mod KnownLemmas
+pub mod RowLaw
+pub mod MeaningLaw
+pub mod StepLaw
+pub mod LawfulLaw
+pub mod ErrorLaw
+pub mod RunLaw
+pub mod PipeLaw
+pub mod RepliedLaw
+pub mod LookupLaw
