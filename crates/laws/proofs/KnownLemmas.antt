@@ -45,7 +45,8 @@ module _ (h : Handed) (kind : Kind) (name : NodeName) (issued : AreIssued h) (is
   unfolding handed
   handed_known q e = by_entry (find (is_named kind name) h.entries) refl q e
 
-nothing : (kind : Kind) (document : ℕ) (ns : List ℕ) → fold (and_one kind document) None ns ≡ None
+-- once a node gets none, the list gets nothing
+pub nothing : (kind : Kind) (document : ℕ) (ns : List ℕ) → fold (and_one kind document) None ns ≡ None
 nothing kind document [] = refl
 nothing kind document (n ∷ ns) = nothing kind document ns
 

@@ -54,6 +54,7 @@ use Rattle.remote_end.specs.Step.{IsActOf, IsActFor, own, Steps}
 use Rattle.remote_end.specs.Values.{status_value, reference_values}
 use Rattle.remote_end.specs.WindowRows.{handle_plan}
 use Rattle.laws.specs.Replied.{Holds, Alone, Among, IsReplied, AreReplied}
+use Rattle.laws.proofs.KnownLemmas.{nothing}
 use Rattle.laws.proofs.RowLaw.{checks_one}
 
 -- ---- what is handed out
@@ -106,10 +107,6 @@ record ManyMore (kind : Kind) (p q : List Identifier × Handed) : Type 0 where
   session : q.1.ids.session ≡ p.1.ids.session
   ids : (id : Identifier) → Contains p.0 id → Contains q.0 id
   entries : (entry : Entry) → Contains q.1.entries entry → Contains p.1.entries entry ⊎ ((entry.kind ≡ kind) × Contains q.0 (id_at q.1.ids entry.kind entry.serial))
-
-nothing : (kind : Kind) (document : ℕ) (ns : List ℕ) → fold (and_one kind document) None ns ≡ None
-nothing kind document [] = refl
-nothing kind document (n ∷ ns) = nothing kind document ns
 
 module _ (kind : Kind) (document : ℕ) where
   joins : (p q : List Identifier × Handed) (r : Identifier × Handed) → OneMore p.1 kind r → ManyMore kind (p.0 ++ r.0 ∷ [], r.1) q → ManyMore kind p q
