@@ -52,70 +52,70 @@ use Rattle.laws.specs.Errors.{HasAdvanced, ErrorsKeep}
 use Rattle.laws.proofs.RowLaw.{checks_one}
 
 -- where its reply is an error, a plan leaves the session advanced, or all as it is
-abbrev Advances : Session → After → Type 0
-Advances s after = (after ≡ Same) ⊎ ((m : ℕ) × (t : Session) × (s.at ≤ m) × Advanced s m t × (after ≡ Leaves t))
+abbrev Advances : Setting → Session → After → Type 0
+Advances setting s after = (after ≡ Same) ⊎ ((m : ℕ) × (t : Session) × (s.at ≤ m) × Advanced setting s m t × (after ≡ Leaves t))
 
-abbrev Only : Session → Plan → Type 0
-Only s plan = plan.reply.status ≢ 200 → Advances s plan.after
+abbrev Only : Setting → Session → Plan → Type 0
+Only setting s plan = plan.reply.status ≢ 200 → Advances setting s plan.after
 
-here : (s : Session) → NoneDue s.page.pending s.at → (reply : Reply) → Only s (at_once reply (Leaves s))
-here s still reply bad = inr (s.at, s, omega arith, advanced_here s still, refl)
+here : (setting : Setting) (s : Session) → NoneDue s.page.pending s.at → (reply : Reply) → Only setting s (at_once reply (Leaves s))
+here setting s still reply bad = inr (s.at, s, omega arith, advanced_here s still, refl)
 
-leaves : (s : Session) → NoneDue s.page.pending s.at → (given : Plan) → given.after ≡ Leaves s → Only s given
-leaves s still given is bad = inr (s.at, s, omega arith, advanced_here s still, is)
+leaves : (setting : Setting) (s : Session) → NoneDue s.page.pending s.at → (given : Plan) → given.after ≡ Leaves s → Only setting s given
+leaves setting s still given is bad = inr (s.at, s, omega arith, advanced_here s still, is)
 
-good : (s : Session) (value : Json) (after : After) → Only s (at_once (success value) after)
-good s value after bad = absurd (bad refl)
+good : (setting : Setting) (s : Session) (value : Json) (after : After) → Only setting s (at_once (success value) after)
+good setting s value after bad = absurd (bad refl)
 
-asks : (s : Session) (given : Plan) (x : List Call) (p : Plan) → Only s given → AsksNothing given x p → Only s p
-asks s given x p only is = let P : Plan → Type 0 = Only s in subst P (sym is.1) only
+asks : (setting : Setting) (s : Session) (given : Plan) (x : List Call) (p : Plan) → Only setting s given → AsksNothing given x p → Only setting s p
+asks setting s given x p only is = let P : Plan → Type 0 = Only setting s in subst P (sym is.1) only
 
 -- ---- finds
 
-reference_only : (s : Session) → NoneDue s.page.pending s.at → (kind : Kind) (o : Option (Identifier × Handed)) → Only s (with_reference kind s o)
-reference_only s still kind None = here s still (failure UnknownError)
-reference_only s still kind (Some (id, known)) = good s (node_value kind id) (Leaves (record s { known = known }))
+reference_only : (setting : Setting) (s : Session) → NoneDue s.page.pending s.at → (kind : Kind) (o : Option (Identifier × Handed)) → Only setting s (with_reference kind s o)
+reference_only setting s still kind None = here setting s still (failure UnknownError)
+reference_only setting s still kind (Some (id, known)) = good setting s (node_value kind id) (Leaves (record s { known = known }))
 
-references_only : (s : Session) → NoneDue s.page.pending s.at → (o : Option (List Identifier × Handed)) → Only s (with_references s o)
-references_only s still None = here s still (failure UnknownError)
-references_only s still (Some (ids, known)) = good s (ListValue (reference_values ids)) (Leaves (record s { known = known }))
+references_only : (setting : Setting) (s : Session) → NoneDue s.page.pending s.at → (o : Option (List Identifier × Handed)) → Only setting s (with_references s o)
+references_only setting s still None = here setting s still (failure UnknownError)
+references_only setting s still (Some (ids, known)) = good setting s (ListValue (reference_values ids)) (Leaves (record s { known = known }))
 
-first_only : (s : Session) → NoneDue s.page.pending s.at → (o : Option ℕ) → Only s (first_plan s o)
-first_only s still None = here s still (failure NoSuchElement)
-first_only s still (Some node) = reference_only s still Element (handed s.known Element (named current_document node))
+first_only : (setting : Setting) (s : Session) → NoneDue s.page.pending s.at → (o : Option ℕ) → Only setting s (first_plan s o)
+first_only setting s still None = here setting s still (failure NoSuchElement)
+first_only setting s still (Some node) = reference_only setting s still Element (handed s.known Element (named current_document node))
 
-nodes_only : (s : Session) → NoneDue s.page.pending s.at → (wanted : Wanted) (nodes : List ℕ) → Only s (nodes_plan wanted s nodes)
-nodes_only s still First nodes = first_only s still (first_of_list nodes)
-nodes_only s still AllOf nodes = references_only s still (handed_all s.known Element current_document nodes)
+nodes_only : (setting : Setting) (s : Session) → NoneDue s.page.pending s.at → (wanted : Wanted) (nodes : List ℕ) → Only setting s (nodes_plan wanted s nodes)
+nodes_only setting s still First nodes = first_only setting s still (first_of_list nodes)
+nodes_only setting s still AllOf nodes = references_only setting s still (handed_all s.known Element current_document nodes)
 
-root_only : (s : Session) → NoneDue s.page.pending s.at → (o : Option ℕ) → Only s (root_plan s o)
-root_only s still None = here s still (failure NoSuchShadowRoot)
-root_only s still (Some root) = reference_only s still Shadow (handed s.known Shadow (named current_document root))
+root_only : (setting : Setting) (s : Session) → NoneDue s.page.pending s.at → (o : Option ℕ) → Only setting s (root_plan s o)
+root_only setting s still None = here setting s still (failure NoSuchShadowRoot)
+root_only setting s still (Some root) = reference_only setting s still Shadow (handed s.known Shadow (named current_document root))
 
 -- one that has advanced advances further
-advances_on : (s mid : Session) (m : ℕ) (after : After) → s.at ≤ m → Advanced s m mid → Advances mid after → Advances s after
-advances_on s mid m after from a (inl same) = inl same
-advances_on s mid m after from a (inr (n, t, on, b, is)) =
+advances_on : (setting : Setting) (s mid : Session) (m : ℕ) (after : After) → s.at ≤ m → Advanced setting s m mid → Advances setting mid after → Advances setting s after
+advances_on setting s mid m after from a (inl same) = inl same
+advances_on setting s mid m after from a (inr (n, t, on, b, is)) =
     let at : mid.at ≡ m = at_of s mid m a in
     let more : m ≤ n = omega (arith, at, on) in
     inr (n, t, omega (arith, from, more), advanced_on s mid t m n from more a b, is)
 
-find_only : (find : FindWait) (s : Session) (plan : Plan) → FindPlan find s plan → Only s plan
-find_only find s plan is bad =
+find_only : (setting : Setting) (find : FindWait) (s : Session) (plan : Plan) → FindPlan setting find s plan → Only setting s plan
+find_only setting find s plan is bad =
     let end = is.end in
-    let still : NoneDue end.page.pending end.at = over_after end.at s.page s.at end.page is.ends.advanced.page in
-    let P : Plan → Type 0 = Only end in
-    advances_on s end end.at plan.after is.ends.onwards is.ends.advanced (subst P is.answers (nodes_only end still find.wanted is.nodes) bad)
+    let still : NoneDue end.page.pending end.at = over_after setting end.at s.page s.at end.page is.ends.advanced.page in
+    let P : Plan → Type 0 = Only setting end in
+    advances_on setting s end end.at plan.after is.ends.onwards is.ends.advanced (subst P is.answers (nodes_only setting end still find.wanted is.nodes) bad)
 
-is_find_only : (find : FindWait) (s : Session) → NoneDue s.page.pending s.at → (x : List Call) (p : Plan) → IsFind find s x p → Only s p
-is_find_only find s still x p (Refused bad is) = asks s (at_once (failure InvalidSelector) (Leaves s)) x p (here s still (failure InvalidSelector)) is
-is_find_only find s still x p (Looks plan is) = find_only find s p plan
+is_find_only : (setting : Setting) (find : FindWait) (s : Session) → NoneDue s.page.pending s.at → (x : List Call) (p : Plan) → IsFind setting find s x p → Only setting s p
+is_find_only setting find s still x p (Refused bad is) = asks setting s (at_once (failure InvalidSelector) (Leaves s)) x p (here setting s still (failure InvalidSelector)) is
+is_find_only setting find s still x p (Looks plan is) = find_only setting find s p plan
 
 -- ---- the table
 
-timeouts_only : (s : Session) → NoneDue s.page.pending s.at → (o : Option Timeouts) → Only s (set_timeouts_plan s o)
-timeouts_only s still None = here s still (failure InvalidArgument)
-timeouts_only s still (Some timeouts) = good s Null (Leaves (with_timeouts s timeouts))
+timeouts_only : (setting : Setting) (s : Session) → NoneDue s.page.pending s.at → (o : Option Timeouts) → Only setting s (set_timeouts_plan s o)
+timeouts_only setting s still None = here setting s still (failure InvalidArgument)
+timeouts_only setting s still (Some timeouts) = good setting s Null (Leaves (with_timeouts s timeouts))
 
 new_same : (setting : Setting) (state : State) (reading : ℕ) (r : Result Matched CapFault) → (new_session setting state reading r).reply.status ≢ 200 → (new_session setting state reading r).after ≡ Same
 new_same setting state reading (Ok matched) bad = absurd (bad refl)
@@ -126,21 +126,21 @@ new_quiet setting state reading r x p is = let P : Plan → Type 0 = λ q. q.rep
 
 abbrev Keeps : Row → Type 0
 Keeps (Alone does) = (setting : Setting) (state : State) (j : Json) (reading : ℕ) (x : List Call) (p : Plan) → does setting state j reading x p → p.reply.status ≢ 200 → p.after ≡ Same
-Keeps (Own needs does) = (setting : Setting) (order : Order) (s : Session) → NoneDue s.page.pending s.at → (x : List Call) (p : Plan) → does setting order s x p → Only s p
+Keeps (Own needs does) = (setting : Setting) (order : Order) (s : Session) → NoneDue s.page.pending s.at → (x : List Call) (p : Plan) → does setting order s x p → Only setting s p
 Keeps Unbuilt = Unit {0}
 
 rows_keep : (c : Command) → Keeps (row_of c)
 unfolding row_of
-rows_keep c = elim c as (λ c. Keeps (row_of c)) [ NewSession ↦ λ setting state j reading x p r. new_quiet setting state reading (processed setting.offer.name j) x p r | DeleteSession ↦ λ setting order s still x p r. asks s (at_once (success Null) Ends) x p (good s Null Ends) r | Status ↦ λ setting state j reading x p r bad. ap (λ (q : Plan). q.after) r.1 | GetTimeouts ↦ λ setting order s still x p r. asks s (timeouts_plan s) x p (leaves s still (timeouts_plan s) refl) r | SetTimeouts ↦ λ setting order s still x p r. asks s (set_timeouts_plan s (timeouts_in order.parameters s.matched.timeouts)) x p (timeouts_only s still (timeouts_in order.parameters s.matched.timeouts)) r | NavigateTo ↦ tt | GetCurrentUrl ↦ λ setting order s still x p r. asks s (url_plan s) x p (leaves s still (url_plan s) refl) r | Back ↦ tt | Forward ↦ tt | Refresh ↦ tt | GetTitle ↦ λ setting order s still x p r. asks s (title_plan s) x p (leaves s still (title_plan s) refl) r | GetWindowHandle ↦ λ setting order s still x p r. asks s (handle_plan s) x p (leaves s still (handle_plan s) refl) r | CloseWindow ↦ tt | SwitchToWindow ↦ tt | GetWindowHandles ↦ tt | GetWindowRect ↦ tt | SetWindowRect ↦ tt | MaximizeWindow ↦ tt | FullscreenWindow ↦ tt | MinimizeWindow ↦ tt | SwitchToFrame ↦ tt | SwitchToParentFrame ↦ tt | GetActiveElement ↦ tt | FindElement ↦ λ setting order s still x p r. is_find_only (find_of First s None order.parameters) s still x p r | FindElements ↦ λ setting order s still x p r. is_find_only (find_of AllOf s None order.parameters) s still x p r | FindElementFromElement ↦ λ setting order s still x p r. is_find_only (find_of First s (Some r.0) order.parameters) s still x p r.2 | FindElementsFromElement ↦ λ setting order s still x p r. is_find_only (find_of AllOf s (Some r.0) order.parameters) s still x p r.2 | FindElementFromShadowRoot ↦ λ setting order s still x p r. is_find_only (find_of First s (Some r.0) order.parameters) s still x p r.2 | FindElementsFromShadowRoot ↦ λ setting order s still x p r. is_find_only (find_of AllOf s (Some r.0) order.parameters) s still x p r.2 | GetElementShadowRoot ↦ λ setting order s still x p r. asks s (shadow_plan s r.0) x p (root_only s still (shadow_of s.page.rows.shadows r.0.node)) r.2 | IsElementSelected ↦ tt | GetElementAttribute ↦ tt | GetElementProperty ↦ tt | GetElementCssValue ↦ tt | GetElementText ↦ λ setting order s still x p r. asks s (text_plan s r.0) x p (leaves s still (text_plan s r.0) refl) r.2 | GetElementTagName ↦ λ setting order s still x p r. asks s (tag_name_plan s r.0) x p (leaves s still (tag_name_plan s r.0) refl) r.2 | GetElementRect ↦ tt | IsElementEnabled ↦ tt | IsElementDisplayed ↦ tt | ElementClick ↦ tt | ElementClear ↦ tt | ElementSendKeys ↦ tt | GetPageSource ↦ tt | ExecuteScript ↦ tt | ExecuteAsyncScript ↦ tt | GetAllCookies ↦ tt | AddCookie ↦ tt | DeleteAllCookies ↦ tt | GetNamedCookie ↦ tt | DeleteCookie ↦ tt | PerformActions ↦ tt | ReleaseActions ↦ tt | DismissAlert ↦ tt | AcceptAlert ↦ tt | GetAlertText ↦ tt | SendAlertText ↦ tt | TakeScreenshot ↦ tt | TakeElementScreenshot ↦ tt ]
+rows_keep c = elim c as (λ c. Keeps (row_of c)) [ NewSession ↦ λ setting state j reading x p r. new_quiet setting state reading (processed setting.offer.name j) x p r | DeleteSession ↦ λ setting order s still x p r. asks setting s (at_once (success Null) Ends) x p (good setting s Null Ends) r | Status ↦ λ setting state j reading x p r bad. ap (λ (q : Plan). q.after) r.1 | GetTimeouts ↦ λ setting order s still x p r. asks setting s (timeouts_plan s) x p (leaves setting s still (timeouts_plan s) refl) r | SetTimeouts ↦ λ setting order s still x p r. asks setting s (set_timeouts_plan s (timeouts_in order.parameters s.matched.timeouts)) x p (timeouts_only setting s still (timeouts_in order.parameters s.matched.timeouts)) r | NavigateTo ↦ tt | GetCurrentUrl ↦ λ setting order s still x p r. asks setting s (url_plan s) x p (leaves setting s still (url_plan s) refl) r | Back ↦ tt | Forward ↦ tt | Refresh ↦ tt | GetTitle ↦ λ setting order s still x p r. asks setting s (title_plan s) x p (leaves setting s still (title_plan s) refl) r | GetWindowHandle ↦ λ setting order s still x p r. asks setting s (handle_plan s) x p (leaves setting s still (handle_plan s) refl) r | CloseWindow ↦ tt | SwitchToWindow ↦ tt | GetWindowHandles ↦ tt | GetWindowRect ↦ tt | SetWindowRect ↦ tt | MaximizeWindow ↦ tt | FullscreenWindow ↦ tt | MinimizeWindow ↦ tt | SwitchToFrame ↦ tt | SwitchToParentFrame ↦ tt | GetActiveElement ↦ tt | FindElement ↦ λ setting order s still x p r. is_find_only setting (find_of First s None order.parameters) s still x p r | FindElements ↦ λ setting order s still x p r. is_find_only setting (find_of AllOf s None order.parameters) s still x p r | FindElementFromElement ↦ λ setting order s still x p r. is_find_only setting (find_of First s (Some r.0) order.parameters) s still x p r.2 | FindElementsFromElement ↦ λ setting order s still x p r. is_find_only setting (find_of AllOf s (Some r.0) order.parameters) s still x p r.2 | FindElementFromShadowRoot ↦ λ setting order s still x p r. is_find_only setting (find_of First s (Some r.0) order.parameters) s still x p r.2 | FindElementsFromShadowRoot ↦ λ setting order s still x p r. is_find_only setting (find_of AllOf s (Some r.0) order.parameters) s still x p r.2 | GetElementShadowRoot ↦ λ setting order s still x p r. asks setting s (shadow_plan s r.0) x p (root_only setting s still (shadow_of s.page.rows.shadows r.0.node)) r.2 | IsElementSelected ↦ tt | GetElementAttribute ↦ tt | GetElementProperty ↦ tt | GetElementCssValue ↦ tt | GetElementText ↦ λ setting order s still x p r. asks setting s (text_plan s r.0) x p (leaves setting s still (text_plan s r.0) refl) r.2 | GetElementTagName ↦ λ setting order s still x p r. asks setting s (tag_name_plan s r.0) x p (leaves setting s still (tag_name_plan s r.0) refl) r.2 | GetElementRect ↦ tt | IsElementEnabled ↦ tt | IsElementDisplayed ↦ tt | ElementClick ↦ tt | ElementClear ↦ tt | ElementSendKeys ↦ tt | GetPageSource ↦ tt | ExecuteScript ↦ tt | ExecuteAsyncScript ↦ tt | GetAllCookies ↦ tt | AddCookie ↦ tt | DeleteAllCookies ↦ tt | GetNamedCookie ↦ tt | DeleteCookie ↦ tt | PerformActions ↦ tt | ReleaseActions ↦ tt | DismissAlert ↦ tt | AcceptAlert ↦ tt | GetAlertText ↦ tt | SendAlertText ↦ tt | TakeScreenshot ↦ tt | TakeElementScreenshot ↦ tt ]
 
 module _ (setting : Setting) (order : Order) (s : Session) (still : NoneDue s.page.pending s.at) (x : List Call) (p : Plan) where
-  follows_only : (does : Setting → Order → Session → List Call → Plan → Type 0) (needs : List Need) → Keeps (Own needs does) → (r : Option Reply) → Follows (does setting order) s r x p → Only s p
-  follows_only does needs keeps (Some reply) f = asks s _ x p (here s still reply) f
+  follows_only : (does : Setting → Order → Session → List Call → Plan → Type 0) (needs : List Need) → Keeps (Own needs does) → (r : Option Reply) → Follows (does setting order) s r x p → Only setting s p
+  follows_only does needs keeps (Some reply) f = asks setting s _ x p (here setting s still reply) f
   follows_only does needs keeps None f = keeps setting order s still x p f
 
-  own_only : (row : Row) → Keeps row → IsOwn row setting order s x p → Only s p
-  own_only (Alone does) keeps f = asks s (at_once (failure UnsupportedOperation) (Leaves s)) x p (here s still (failure UnsupportedOperation)) f
-  own_only Unbuilt keeps f = asks s (at_once (failure UnsupportedOperation) (Leaves s)) x p (here s still (failure UnsupportedOperation)) f
+  own_only : (row : Row) → Keeps row → IsOwn row setting order s x p → Only setting s p
+  own_only (Alone does) keeps f = asks setting s (at_once (failure UnsupportedOperation) (Leaves s)) x p (here setting s still (failure UnsupportedOperation)) f
+  own_only Unbuilt keeps f = asks setting s (at_once (failure UnsupportedOperation) (Leaves s)) x p (here setting s still (failure UnsupportedOperation)) f
   own_only (Own needs does) keeps f =
       let same = checks_one order order refl needs s f.checked f.checked f.refusal f.refusal f.checks f.checks in
       let P : Session → Type 0 = λ t. Follows (does setting order) t f.refusal x p in
@@ -155,12 +155,12 @@ alone_same setting state j reading x p (Own needs does) keeps f = λ bad. ap (λ
 
 module _ (setting : Setting) (old : State) (lawful : AreLawful setting old) (reading : ℕ) (x : List Call) (p : Plan) (bad : p.reply.status ≢ 200) where
   abbrev Left : Option (List ℕ) → Type 0
-  Left named = (changed old named p.after ≡ old) ⊎ HasAdvanced old (changed old named p.after)
+  Left named = (changed old named p.after ≡ old) ⊎ HasAdvanced setting old (changed old named p.after)
 
   left_same : (named : Option (List ℕ)) → p.after ≡ Same → Left named
   left_same named is = inl (ap (changed old named) is)
 
-  left_session : (named : Option (List ℕ)) (i : ℕ) (s : Session) → own_place named old.sessions ≡ Some i → slice_get old.sessions i ≡ Some s → Advances s p.after → Left named
+  left_session : (named : Option (List ℕ)) (i : ℕ) (s : Session) → own_place named old.sessions ≡ Some i → slice_get old.sessions i ≡ Some s → Advances setting s p.after → Left named
   left_session named i s at here (inl same) = left_same named same
   left_session named i s at here (inr (m, t, on, a, is)) = inr (record {
     place = i;
@@ -178,12 +178,12 @@ module _ (setting : Setting) (old : State) (lawful : AreLawful setting old) (rea
   of_session order i at (Some s) here (begun, advanced, row) =
       let start : ℕ = start_of (Some s) reading in
       let P : ℕ → Type 0 = λ m. NoneDue begun.page.pending m in
-      let still : NoneDue begun.page.pending begun.at = subst P (sym (at_of s begun start advanced)) (over_after start s.page s.at begun.page advanced.page) in
+      let still : NoneDue begun.page.pending begun.at = subst P (sym (at_of s begun start advanced)) (over_after setting start s.page s.at begun.page advanced.page) in
       let Q : Session → Type 0 = IsLawful setting in
       let whole : IsLawful setting s = subst Q (get_or_from_slice_get old.sessions i s s here) (All-get_or Q old.sessions i s (slice_get_within old.sessions i s here) lawful.each) in
       let within : s.at ≤ last_moment = whole.moment in
       left_session order.route.session i s at here
-      (advances_on s begun start p.after (omega (arith, within)) advanced (own_only setting order begun still x p (row_of order.route.command) (rows_keep order.route.command) row bad))
+      (advances_on setting s begun start p.after (omega (arith, within)) advanced (own_only setting order begun still x p (row_of order.route.command) (rows_keep order.route.command) row bad))
 
   of_place : (order : Order) (o : Option ℕ) → own_place order.route.session old.sessions ≡ o → IsActOf setting old order reading (at_place old.sessions o) x p → Left order.route.session
   of_place order None at act = left_same order.route.session (alone_same setting old order.parameters reading x p (row_of order.route.command) (rows_keep order.route.command) act bad)
@@ -197,5 +197,5 @@ pub errors_keep : ErrorsKeep
 unfolding Steps
 errors_keep setting old new request calls reply lawful step bad =
     let wrong : step.plan.reply.status ≢ 200 = λ fine. bad (ap (λ (r : Reply). r.status) step.reply_is ∙ fine) in
-    let P : State → Type 0 = λ state. (state ≡ old) ⊎ HasAdvanced old state in
+    let P : State → Type 0 = λ state. (state ≡ old) ⊎ HasAdvanced setting old state in
     subst P (sym step.new_is) (errors_keep_act setting old lawful step.reading step.asked step.plan wrong step.meaning step.act)

@@ -117,7 +117,7 @@ root_stays setting s (Some root) = reference_stays setting s Shadow (named curre
 
 -- ---- time
 
-advanced_stays : (setting : Setting) (s t : Session) (m : ℕ) → m ≤ last_moment → Advanced s m t → Stays setting s t
+advanced_stays : (setting : Setting) (s t : Session) (m : ℕ) → m ≤ last_moment → Advanced setting s m t → Stays setting s t
 advanced_stays setting s t m within a =
     let u : Session = record s { page = t.page; at = m } in
     let P : Session → Type 0 = λ v. Stays setting s v in
@@ -130,14 +130,14 @@ ends_within : (find : FindWait) (nodes : List ℕ) (m : ℕ) → EndsAt find nod
 ends_within find [] m e = omega (arith, e)
 ends_within find (node ∷ nodes) m e = e
 
-find_stays : (setting : Setting) (s : Session) (find : FindWait) (plan : Plan) → find.until ≤ last_moment → FindPlan find s plan → StaysAfter setting s plan.after
+find_stays : (setting : Setting) (s : Session) (find : FindWait) (plan : Plan) → find.until ≤ last_moment → FindPlan setting find s plan → StaysAfter setting s plan.after
 find_stays setting s find plan within is =
     let by_end = ends_within find is.nodes is.end.at is.ends.ends in
     let P : After → Type 0 = StaysAfter setting s in
     subst P (ap (λ (q : Plan). q.after) is.answers)
     (after_on setting s is.end (nodes_plan find.wanted is.end is.nodes).after (advanced_stays setting s is.end is.end.at (omega (arith, by_end, within)) is.ends.advanced) (nodes_stay setting is.end find.wanted is.nodes))
 
-is_find_stays : (setting : Setting) (s : Session) (find : FindWait) (x : List Call) (p : Plan) → find.until ≤ last_moment → IsFind find s x p → StaysAfter setting s p.after
+is_find_stays : (setting : Setting) (s : Session) (find : FindWait) (x : List Call) (p : Plan) → find.until ≤ last_moment → IsFind setting find s x p → StaysAfter setting s p.after
 is_find_stays setting s find x p within (Refused bad is) = asks setting s _ x p (stays_here setting s) is
 is_find_stays setting s find x p within (Looks plan is) = find_stays setting s find p within plan
 

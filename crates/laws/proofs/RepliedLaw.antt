@@ -203,8 +203,8 @@ root_hands : (s : Session) (o : Option ℕ) → Hands s (root_plan s o)
 root_hands s None = adds_none s.known (failure NoSuchShadowRoot)
 root_hands s (Some root) = reference_hands s Shadow (named current_document root) (handed s.known Shadow (named current_document root)) refl
 
-known_same : (s t : Session) (m : ℕ) → Advanced s m t → t.known ≡ s.known
-known_same s t m a = ap (λ (u : Session). u.known) a.kept
+known_same : {setting : Setting} (s t : Session) (m : ℕ) → Advanced setting s m t → t.known ≡ s.known
+known_same {setting} s t m a = ap (λ (u : Session). u.known) a.kept
 
 after_from : (s t : Session) (reply : Reply) (after : After) → t.known ≡ s.known → AddsAfter t reply after → AddsAfter s reply after
 after_from s t reply Same same a = tt
@@ -212,14 +212,14 @@ after_from s t reply (Leaves u) same a = let P : Handed → Type 0 = λ h. Adds 
 after_from s t reply Ends same a = tt
 after_from s t reply (Opens u) same a = a
 
-find_hands : (find : FindWait) (s : Session) (plan : Plan) → FindPlan find s plan → Hands s plan
-find_hands find s plan is =
+find_hands : {setting : Setting} (find : FindWait) (s : Session) (plan : Plan) → FindPlan setting find s plan → Hands s plan
+find_hands {setting} find s plan is =
     let P : Plan → Type 0 = Hands is.end in
     after_from s is.end plan.reply plan.after (known_same s is.end is.end.at is.ends.advanced) (subst P is.answers (nodes_hand is.end find.wanted is.nodes))
 
-is_find_hands : (find : FindWait) (s : Session) (x : List Call) (p : Plan) → IsFind find s x p → Hands s p
-is_find_hands find s x p (Refused bad is) = asks s (at_once (failure InvalidSelector) (Leaves s)) x p (adds_none s.known (failure InvalidSelector)) is
-is_find_hands find s x p (Looks plan is) = find_hands find s p plan
+is_find_hands : {setting : Setting} (find : FindWait) (s : Session) (x : List Call) (p : Plan) → IsFind setting find s x p → Hands s p
+is_find_hands {setting} find s x p (Refused bad is) = asks s (at_once (failure InvalidSelector) (Leaves s)) x p (adds_none s.known (failure InvalidSelector)) is
+is_find_hands {setting} find s x p (Looks plan is) = find_hands find s p plan
 
 timeouts_hand : (s : Session) (o : Option Timeouts) → Hands s (set_timeouts_plan s o)
 timeouts_hand s None = adds_none s.known (failure InvalidArgument)

@@ -64,8 +64,8 @@ set_timeouts_one setting a b same s still idle x y p q r t =
     nothing_one _ _ x y p q (ap (λ (j : Json). set_timeouts_plan s (timeouts_in j s.matched.timeouts)) same.parameters) r t
 
 -- a find that has a plan can look
-plan_sought : (find : FindWait) (s : Session) (plan : Plan) → NoneDue s.page.pending s.at → StartsIn find.start s.page.rows → FindPlan find s plan → IsSought find.by find.text
-plan_sought find s plan still starts is = by (nat_lt s.at is.end.at) refl
+plan_sought : {setting : Setting} (find : FindWait) (s : Session) (plan : Plan) → NoneDue s.page.pending s.at → StartsIn find.start s.page.rows → FindPlan setting find s plan → IsSought find.by find.text
+plan_sought {setting} find s plan still starts is = by (nat_lt s.at is.end.at) refl
   where
     by : (later : Bool) → nat_lt s.at is.end.at ≡ later → IsSought find.by find.text
     by true less = gives_sought find s.page.rows [] starts (is.ends.least s.at s (omega arith) (ltb-true s.at is.end.at less) (advanced_here s still))
@@ -79,23 +79,23 @@ plan_sought find s plan still starts is = by (nat_lt s.at is.end.at) refl
         gives_sought find s.page.rows is.nodes starts (subst Q (sym page) is.ends.gives)
 
 -- a find has one plan: that of a session in which it waits
-find_one : (find : FindWait) (s : Session) (p q : Plan) → s.waiting ≡ None → FindPlan find s p → FindPlan find s q → p ≡ q
-find_one find s p q idle a b =
-    let P : Session → Plan → Type 0 = λ t plan. FindPlan find t plan in
+find_one : {setting : Setting} (find : FindWait) (s : Session) (p q : Plan) → s.waiting ≡ None → FindPlan setting find s p → FindPlan setting find s q → p ≡ q
+find_one {setting} find s p q idle a b =
+    let P : Session → Plan → Type 0 = λ t plan. FindPlan setting find t plan in
     let Q : Session → Type 0 = λ t. P t p in
     let R : Session → Type 0 = λ t. P t q in
     let same = sym (settled_is s idle) in
-    plans_are_one (with_waiting s (Find find)) p q (subst Q same a) (subst R same b)
+    plans_are_one setting (with_waiting s (Find find)) p q (subst Q same a) (subst R same b)
 
-is_find_one : (find : FindWait) (s : Session) → NoneDue s.page.pending s.at → s.waiting ≡ None → StartsIn find.start s.page.rows → (x y : List Call) (p q : Plan) → IsFind find s x p → IsFind find s y q → AreOne x y p q
-is_find_one find s still idle starts x y p q (Refused bad a) (Refused also b) = nothing_one _ _ x y p q refl a b
-is_find_one find s still idle starts x y p q (Refused bad a) (Looks plan b) = absurd (sought_lawful find.by find.text (plan_sought find s q still starts plan) bad)
-is_find_one find s still idle starts x y p q (Looks plan a) (Refused bad b) = absurd (sought_lawful find.by find.text (plan_sought find s p still starts plan) bad)
-is_find_one find s still idle starts x y p q (Looks plan a) (Looks other b) = (a, b, find_one find s p q idle plan other)
+is_find_one : {setting : Setting} (find : FindWait) (s : Session) → NoneDue s.page.pending s.at → s.waiting ≡ None → StartsIn find.start s.page.rows → (x y : List Call) (p q : Plan) → IsFind setting find s x p → IsFind setting find s y q → AreOne x y p q
+is_find_one {setting} find s still idle starts x y p q (Refused bad a) (Refused also b) = nothing_one _ _ x y p q refl a b
+is_find_one {setting} find s still idle starts x y p q (Refused bad a) (Looks plan b) = absurd (sought_lawful find.by find.text (plan_sought find s q still starts plan) bad)
+is_find_one {setting} find s still idle starts x y p q (Looks plan a) (Refused bad b) = absurd (sought_lawful find.by find.text (plan_sought find s p still starts plan) bad)
+is_find_one {setting} find s still idle starts x y p q (Looks plan a) (Looks other b) = (a, b, find_one find s p q idle plan other)
 
 find_row_one : (wanted : Wanted) → IsOne (FindRow wanted)
 find_row_one wanted setting a b same s still idle x y p q r t =
-    let P : Json → Type 0 = λ j. IsFind (find_of wanted s None j) s y q in
+    let P : Json → Type 0 = λ j. IsFind setting (find_of wanted s None j) s y q in
     is_find_one (find_of wanted s None a.parameters) s still idle tt x y p q r (subst P (sym same.parameters) t)
 
 -- a node that was looked up is connected
@@ -114,8 +114,8 @@ names_one kind a b s name other same is also =
 find_from_one : (wanted : Wanted) (kind : Kind) → IsOne (FindFromRow wanted kind)
 find_from_one wanted kind setting a b same s still idle x y p q (name, is, r) (other, also, t) =
     let n : name ≡ other = names_one kind a b s name other same.item is also in
-    let P : Json → Type 0 = λ j. IsFind (find_of wanted s (Some other) j) s y q in
-    let Q : NodeName → Type 0 = λ m. IsFind (find_of wanted s (Some m) a.parameters) s y q in
+    let P : Json → Type 0 = λ j. IsFind setting (find_of wanted s (Some other) j) s y q in
+    let Q : NodeName → Type 0 = λ m. IsFind setting (find_of wanted s (Some m) a.parameters) s y q in
     is_find_one (find_of wanted s (Some name) a.parameters) s still idle (checked_current kind s.page.rows (name_with s.known kind (item_of a)) name is) x y p q r
     (subst Q (sym n) (subst P (sym same.parameters) t))
 

@@ -28,7 +28,7 @@ module _ (setting : Setting) (state : State) (idle : AreIdle state.sessions) (re
       let start : ℕ = start_of (Some s) reading in
       let e : begun ≡ other = advanced_one s begun other start advanced also in
       let P : ℕ → Type 0 = λ m. NoneDue begun.page.pending m in
-      let still : NoneDue begun.page.pending begun.at = subst P (sym (at_of s begun start advanced)) (over_after start s.page s.at begun.page advanced.page) in
+      let still : NoneDue begun.page.pending begun.at = subst P (sym (at_of s begun start advanced)) (over_after setting start s.page s.at begun.page advanced.page) in
       let Q : Session → Type 0 = λ t. IsRow setting b t y q in
       row_one setting a b same begun still (ap (λ (t : Session). t.waiting) advanced.kept ∙ free) x y p q f (subst Q (sym e) g)
 

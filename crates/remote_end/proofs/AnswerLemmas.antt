@@ -60,8 +60,8 @@ pub record Underway (setting : Setting) (old : State) (request : Request) (readi
   pub session : Session
   pub r : ℕ
   pub less : r < until
-  pub begins : (plan : Plan) → IsPlanOf session plan → first_moment plan.stages ≡ Some until
-  pub known : Known (IsActFor setting old meaning reading []) (start_of (session_named (own meaning) old.sessions) reading) made r session
+  pub begins : (plan : Plan) → IsPlanOf setting session plan → first_moment plan.stages ≡ Some until
+  pub known : Known setting (IsActFor setting old meaning reading []) (start_of (session_named (own meaning) old.sessions) reading) made r session
   pub place : ℕ
   pub place_is : own_place (own meaning) old.sessions ≡ Some place
   pub here : slice_get old.sessions place ≡ Some first
@@ -127,7 +127,7 @@ module _ (setting : Setting) (old : State) (request : Request) (reading : ℕ) (
     abbrev start : ℕ
     start = start_of (session_named (own meaning) old.sessions) reading
 
-    by : (o : Outcome) → ComesTo IsPlan start o after → IsNamed o (own meaning) old.sessions → Answering setting old request reading [] new o
+    by : (o : Outcome) → ComesTo setting IsPlan start o after → IsNamed o (own meaning) old.sessions → Answering setting old request reading [] new o
     by (Replied reply) ends named =
         let made : HasMade IsPlan start [] ends.plan = record { plan = ends.plan; is = ends.is; rests = ends.over; reply_is = refl; after_is = refl } in
         let P : State → Type 0 = λ t. AreIdle t.sessions in
@@ -142,7 +142,7 @@ module _ (setting : Setting) (old : State) (request : Request) (reading : ℕ) (
           r = start;
           less = waits.later;
           begins = first_of IsPlan start number until session waits;
-          known = known_first IsPlan start number until session waits;
+          known = known_first setting IsPlan start number until session waits;
           place = place;
           place_is = place_is;
           here = h.1;
@@ -175,12 +175,12 @@ module _ (setting : Setting) (old : State) (request : Request) (reading : ℕ) (
       abbrev Now_made : List Call
       Now_made = made ++ Rest until x ∷ []
 
-      on : (left : Session) (o : Outcome) → ComesTo (IsPlanOf held.session) x o (Leaves left) → left.number ≡ held.session.number
+      on : (left : Session) (o : Outcome) → ComesTo setting (IsPlanOf setting held.session) x o (Leaves left) → left.number ≡ held.session.number
           → new ≡ record old { sessions = slice_set old.sessions held.place left } → Answering setting old request reading Now_made new o
       on left (Replied reply) ends number_is new_is =
           let IsPlan : Plan → Type 0 = IsActFor setting old held.meaning reading [] in
           let start : ℕ = start_of (session_named (own held.meaning) old.sessions) reading in
-          let all = made_all IsPlan start held.r number until x held.session made held.known held.less late reply (Leaves left) ends held.begins in
+          let all = made_all setting IsPlan start held.r number until x held.session made held.known held.less late reply (Leaves left) ends held.begins in
           let changed_is : new ≡ changed old (own held.meaning) (Leaves left) = new_is ∙ ap (λ (o : Option ℕ). let t : State = record old { sessions = set_at old.sessions o left } in t) (sym held.place_is) in
           let P : State → Type 0 = λ t. AreIdle t.sessions in (
             step_of held.meaning held.means Now_made all.0 all.1 reply (Leaves left) all.2 all.3 new changed_is,
@@ -200,8 +200,8 @@ module _ (setting : Setting) (old : State) (request : Request) (reading : ℕ) (
             session = session;
             r = x;
             less = waits.later;
-            begins = first_of (IsPlanOf held.session) x other next session waits;
-            known = known_next IsPlan start held.r number until x held.session made held.known held.less late other next session waits held.begins;
+            begins = first_of (IsPlanOf setting held.session) x other next session waits;
+            known = known_next setting IsPlan start held.r number until x held.session made held.known held.less late other next session waits held.begins;
             place = held.place;
             place_is = held.place_is;
             here = held.here;
@@ -211,7 +211,7 @@ module _ (setting : Setting) (old : State) (request : Request) (reading : ℕ) (
             now_is = new_is ∙ ap (λ (t : Session). let u : State = record old { sessions = slice_set old.sessions held.place t } in u) same;
           }
 
-      pub resumed : (o : Outcome) → Resumes current number x new o → Answering setting old request reading Now_made new o
+      pub resumed : (o : Outcome) → Resumes setting current number x new o → Answering setting old request reading Now_made new o
       resumed o resumes =
           let within : held.place < length old.sessions = slice_get_within old.sessions held.place held.first held.here in
           let list : current.sessions ≡ slice_set old.sessions held.place held.session = ap (λ (t : State). t.sessions) held.now_is in
@@ -222,7 +222,7 @@ module _ (setting : Setting) (old : State) (request : Request) (reading : ℕ) (
           let here : slice_get (slice_set old.sessions held.place held.session) held.place ≡ Some goes.session =
           sym (ap (λ (l : List Session). slice_get l held.place) list) ∙ sym (ap (λ (i : ℕ). slice_get current.sessions i) same_place) ∙ goes.here in
           let same : goes.session ≡ held.session = some_session goes.session held.session (sym here ∙ here_set old.sessions held.place held.session within) in
-          let P : Session → Type 0 = λ s. ComesTo (IsPlanOf s) x o (Leaves goes.left) in
+          let P : Session → Type 0 = λ s. ComesTo setting (IsPlanOf setting s) x o (Leaves goes.left) in
           let sessions_are : new.sessions ≡ slice_set old.sessions held.place goes.left =
           goes.new_is ∙ ap (λ (i : ℕ). slice_set current.sessions i goes.left) same_place ∙ ap (λ (l : List Session). slice_set l held.place goes.left) list
           ∙ set_again old.sessions held.place held.session goes.left in
@@ -239,11 +239,11 @@ abbrev pub rests_left : Outcome → List Session → ℕ
 rests_left (Replied reply) sessions = 0
 rests_left (Wait number until) sessions = rests_in (session_numbered number sessions)
 
-module _ (current new : State) (number until x : ℕ) (busy : busy_of number current.sessions ≡ Some until) (late : until ≤ x) where
-  pub fewer_left : (o : Outcome) → Resumes current number x new o → rests_left o new.sessions < rests_left (Wait number until) current.sessions
+module _ {setting : Setting} (current new : State) (number until x : ℕ) (busy : busy_of number current.sessions ≡ Some until) (late : until ≤ x) where
+  pub fewer_left : (o : Outcome) → Resumes setting current number x new o → rests_left o new.sessions < rests_left (Wait number until) current.sessions
   fewer_left o resumes = by o goes.comes
     where
-      goes : GoesOn current.sessions resumes.place x new.sessions o
+      goes : GoesOn setting current.sessions resumes.place x new.sessions o
       goes = resumes.goes
 
       is : session_numbered number current.sessions ≡ Some resumes.goes.session
@@ -255,7 +255,7 @@ module _ (current new : State) (number until x : ℕ) (busy : busy_of number cur
       before : rests_left (Wait number until) current.sessions ≡ left_of resumes.goes.session
       before = ap rests_in is
 
-      by : (p : Outcome) → ComesTo (IsPlanOf resumes.goes.session) x p (Leaves resumes.goes.left) → rests_left p new.sessions < rests_left (Wait number until) current.sessions
+      by : (p : Outcome) → ComesTo setting (IsPlanOf setting resumes.goes.session) x p (Leaves resumes.goes.left) → rests_left p new.sessions < rests_left (Wait number until) current.sessions
       by (Replied reply) ends = let l = less in let b = before in omega (arith, l, b)
       by (Wait other next) (session, after_is, waits) =
           let left : Session = resumes.goes.left in
@@ -292,16 +292,18 @@ module _ {O : Type 0} (makes : O → Call → O → Type 0) (before after : O) (
   }
 
   pub rested_next : (current new : Standing) (number until x : ℕ) (outcome : Outcome) (later : O) → Rested makes before after old current request reading (Wait number until)
-      → until ≤ x → makes after (Rest until x) later → Resumes current.state number x new.state outcome → new ≡ record current { state = new.state; taken = current.taken ++ Reading x ∷ [] }
+      → until ≤ x → makes after (Rest until x) later → Resumes current.setting current.state number x new.state outcome → new ≡ record current { state = new.state; taken = current.taken ++ Reading x ∷ [] }
       → Rested makes before later old new request reading outcome
   rested_next current new number until x outcome later held late does resumes kept =
+      let same : current.setting ≡ old.setting = ap (λ (s : Standing). s.setting) held.kept in
+      let P : Setting → Type 0 = λ t. Resumes t current.state number x new.state outcome in
       let taken_is : current.taken ≡ old.taken ++ map taken_of (Now reading ∷ held.made) = ap (λ (s : Standing). s.taken) held.kept in
       let taken_more : current.taken ++ Reading x ∷ [] ≡ old.taken ++ map taken_of (Now reading ∷ held.made ++ Rest until x ∷ []) =
       ap (λ (l : List Taken). l ++ Reading x ∷ []) taken_is ∙ append_assoc old.taken (map taken_of (Now reading ∷ held.made)) (Reading x ∷ [])
       ∙ ap (λ (l : List Taken). old.taken ++ l) (sym (map-append taken_of (Now reading ∷ held.made) (Rest until x ∷ []))) in
       record {
         made = held.made ++ Rest until x ∷ [];
-        answering = resumed old.setting old.state request reading ready.idle held.made current.state number until held.answering x late new.state outcome resumes;
+        answering = resumed old.setting old.state request reading ready.idle held.made current.state number until held.answering x late new.state outcome (subst P same resumes);
         kept = kept
             ∙ ap (λ (s : Standing). let t : Standing = record s { state = new.state; taken = current.taken ++ Reading x ∷ [] } in t) held.kept
             ∙ ap (λ (l : List Taken). let t : Standing = record old { state = new.state; taken = l } in t) taken_more;

@@ -28,6 +28,7 @@ use Rattle.remote_end.specs.Waits.{IsSought, FindFits}
 use Rattle.remote_end.proofs.DueOrder.{due_first}
 use Rattle.remote_end.proofs.AdvanceLemmas.{before_later}
 use Rattle.remote_end.proofs.AdvanceMoreLemmas.{still_page, advanced_here, at_of, advanced_on, advanced_rest}
+use Rattle.remote_end.specs.declared.setting.Setting.{Setting}
 
 -- ---- what a find gives is one list
 
@@ -136,7 +137,7 @@ soonest_none until (t ∷ ts) e = absurd (cc)
 
 -- ---- one next moment
 
-module _ (find : FindWait) (s : Session) (fits : FindFits find s.page s.at) where
+module _ (setting : Setting) (find : FindWait) (s : Session) (fits : FindFits find s.page s.at) where
   abbrev moment : ℕ
   moment = soonest find.until s.page.pending
 
@@ -144,17 +145,17 @@ module _ (find : FindWait) (s : Session) (fits : FindFits find s.page s.at) wher
   later = to_come find.until s.page.pending s.at fits.short fits.still
 
   -- before it the find gives nothing, at whatever moment
-  pub nothing_before : (m : ℕ) (mid : Session) → m < moment → Advanced s m mid → Gives find mid.page.rows []
+  pub nothing_before : (m : ℕ) (mid : Session) → m < moment → Advanced setting s m mid → Gives find mid.page.rows []
   nothing_before m mid early a =
       let same : s.page ≡ mid.page = still_page s mid m (not_before find.until s.page.pending m early) a in
       let P : PageState → Type 0 = λ p. Gives find p.rows [] in
       subst P same fits.nothing
 
   -- it ends there
-  pub ends_there : (end : Session) (nodes : List ℕ) → Advanced s moment end → Gives find end.page.rows nodes → EndsAt find nodes moment → FindEnds find s end nodes
+  pub ends_there : (end : Session) (nodes : List ℕ) → Advanced setting s moment end → Gives find end.page.rows nodes → EndsAt find nodes moment → FindEnds setting find s end nodes
   ends_there end nodes a gives ends =
       let at : end.at ≡ moment = at_of s end moment a in
-      let P : ℕ → Type 0 = λ m. Advanced s m end in
+      let P : ℕ → Type 0 = λ m. Advanced setting s m end in
       let Q : ℕ → Type 0 = λ m. EndsAt find nodes m in
       record {
         onwards = let late = later in omega (arith, at, late);
@@ -165,7 +166,7 @@ module _ (find : FindWait) (s : Session) (fits : FindFits find s.page s.at) wher
       }
 
   -- it goes on there
-  pub ends_later : (mid end : Session) (nodes : List ℕ) → Advanced s moment mid → FindEnds find mid end nodes → FindEnds find s end nodes
+  pub ends_later : (mid end : Session) (nodes : List ℕ) → Advanced setting s moment mid → FindEnds setting find mid end nodes → FindEnds setting find s end nodes
   ends_later mid end nodes a ends =
       let at : mid.at ≡ moment = at_of s mid moment a in
       let late = later in
@@ -179,7 +180,7 @@ module _ (find : FindWait) (s : Session) (fits : FindFits find s.page s.at) wher
         least = least;
       }
     where
-      by : (m : ℕ) (one : Session) → s.at ≤ m → m < end.at → Advanced s m one → (early : Bool) → nat_lt m moment ≡ early → Gives find one.page.rows []
+      by : (m : ℕ) (one : Session) → s.at ≤ m → m < end.at → Advanced setting s m one → (early : Bool) → nat_lt m moment ≡ early → Gives find one.page.rows []
       by m one from before b true is = nothing_before m one (ltb-true m moment is) b
       by m one from before b false is =
           let not_early : moment ≤ m = ltb-false m moment is in
@@ -187,11 +188,11 @@ module _ (find : FindWait) (s : Session) (fits : FindFits find s.page s.at) wher
           let late = later in
           ends.least m one (omega (arith, at, not_early)) before (advanced_rest s mid one moment m (omega (arith, late)) not_early a b)
 
-      least : (m : ℕ) (one : Session) → s.at ≤ m → m < end.at → Advanced s m one → Gives find one.page.rows []
+      least : (m : ℕ) (one : Session) → s.at ≤ m → m < end.at → Advanced setting s m one → Gives find one.page.rows []
       least m one from before b = by m one from before b (nat_lt m moment) refl
 
   -- it doesn't end at once
-  pub ends_after : (end : Session) (nodes : List ℕ) → FindEnds find s end nodes → s.at < end.at
+  pub ends_after : (end : Session) (nodes : List ℕ) → FindEnds setting find s end nodes → s.at < end.at
   ends_after end nodes ends = by (nat_lt s.at end.at) refl
     where
       by : (after : Bool) → nat_lt s.at end.at ≡ after → s.at < end.at
@@ -211,9 +212,9 @@ module _ (find : FindWait) (s : Session) (fits : FindFits find s.page s.at) wher
 
   -- ---- the plan from there on is what is left of the plan
 
-  pub plan_there : (end : Session) (nodes : List ℕ) (reply : Reply) (after : After) → Advanced s moment end → Gives find end.page.rows nodes → EndsAt find nodes moment
+  pub plan_there : (end : Session) (nodes : List ℕ) (reply : Reply) (after : After) → Advanced setting s moment end → Gives find end.page.rows nodes → EndsAt find nodes moment
       → nodes_plan find.wanted end nodes ≡ at_once reply after
-      → FindPlan find s (record { reply = reply; after = after; begun = Some s; stages = record { moment = moment; session = end } ∷ [] })
+      → FindPlan setting find s (record { reply = reply; after = after; begun = Some s; stages = record { moment = moment; session = end } ∷ [] })
   plan_there end nodes reply after a gives ends answers = record {
     end = end;
     nodes = nodes;
@@ -223,8 +224,8 @@ module _ (find : FindWait) (s : Session) (fits : FindFits find s.page s.at) wher
     answers = answers;
   }
 
-  pub plan_later : (mid : Session) (rest : Plan) → Advanced s moment mid → FindPlan find mid rest
-      → FindPlan find s (record rest { begun = Some s; stages = record { moment = moment; session = mid } ∷ rest.stages })
+  pub plan_later : (mid : Session) (rest : Plan) → Advanced setting s moment mid → FindPlan setting find mid rest
+      → FindPlan setting find s (record rest { begun = Some s; stages = record { moment = moment; session = mid } ∷ rest.stages })
   plan_later mid rest a plan = record {
     end = plan.end;
     nodes = plan.nodes;
@@ -241,9 +242,9 @@ module _ (find : FindWait) (s : Session) (fits : FindFits find s.page s.at) wher
 -- ---- at once
 
 -- a find that gives a node at its start, or whose span is over there, ends there
-pub plan_at_once : (find : FindWait) (s : Session) (nodes : List ℕ) (reply : Reply) (after : After) → NoneDue s.page.pending s.at → Gives find s.page.rows nodes → EndsAt find nodes s.at
-    → nodes_plan find.wanted s nodes ≡ at_once reply after → FindPlan find s (record { reply = reply; after = after; begun = None; stages = [] })
-plan_at_once find s nodes reply after still gives ends answers = record {
+pub plan_at_once : {setting : Setting} (find : FindWait) (s : Session) (nodes : List ℕ) (reply : Reply) (after : After) → NoneDue s.page.pending s.at → Gives find s.page.rows nodes → EndsAt find nodes s.at
+    → nodes_plan find.wanted s nodes ≡ at_once reply after → FindPlan setting find s (record { reply = reply; after = after; begun = None; stages = [] })
+plan_at_once {setting} find s nodes reply after still gives ends answers = record {
   end = s;
   nodes = nodes;
   begun = refl;

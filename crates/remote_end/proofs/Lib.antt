@@ -1,7 +1,5 @@
-pub mod AdvanceLaw
 pub mod AdvanceLemmas
 pub mod AdvanceMoreLemmas
-pub mod AdvanceThere
 pub mod AnswerLemmas
 pub mod CheckLemmas
 pub mod CodeLemmas
@@ -11,6 +9,7 @@ pub mod LookupLemmas
 pub mod NamingLemmas
 pub mod NumberLemmas
 pub mod OpeningLemmas
+pub mod PageTimers
 pub mod PlanLaw
 pub mod PlanThere
 pub mod RestLemmas

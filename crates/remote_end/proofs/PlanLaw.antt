@@ -15,46 +15,47 @@ use Rattle.remote_end.specs.Plan.{Stage, Plan, at_once}
 use Rattle.remote_end.specs.Resumed.{PlansAreOne}
 use Rattle.remote_end.specs.State.{After}
 use Rattle.remote_end.specs.Waits.{settled, PlansIn}
-use Rattle.remote_end.proofs.AdvanceLaw.{advances_to_one}
+use Rattle.remote_end.proofs.AdvanceMoreLemmas.{advances_to_one}
 use Rattle.remote_end.proofs.FindLemmas.{gives_one}
+use Rattle.remote_end.specs.declared.setting.Setting.{Setting}
 
-pub advanced_one : (s one two : Session) (m : ℕ) → Advanced s m one → Advanced s m two → one ≡ two
-advanced_one s one two m a b =
-    let page : one.page ≡ two.page = advances_to_one m s.at s.page one.page two.page a.page b.page in
+pub advanced_one : {setting : Setting} (s one two : Session) (m : ℕ) → Advanced setting s m one → Advanced setting s m two → one ≡ two
+advanced_one {setting} s one two m a b =
+    let page : one.page ≡ two.page = advances_to_one setting m s.at s.page one.page two.page a.page b.page in
     a.kept ∙ ap (λ (p : PageState). let t : Session = record s { page = p; at = m } in t) page ∙ sym b.kept
 
 ends_within : (find : FindWait) (nodes : List ℕ) (m : ℕ) → EndsAt find nodes m → m ≤ find.until
 ends_within find [] m e = omega (arith, e)
 ends_within find (n ∷ nodes) m e = e
 
-not_sooner : (find : FindWait) (s e f : Session) (ns ms : List ℕ) → FindEnds find s e ns → FindEnds find s f ms → e.at < f.at → ⊥
-not_sooner find s e f ns ms a b less =
+not_sooner : {setting : Setting} (find : FindWait) (s e f : Session) (ns ms : List ℕ) → FindEnds setting find s e ns → FindEnds setting find s f ms → e.at < f.at → ⊥
+not_sooner {setting} find s e f ns ms a b less =
     let none : [] ≡ ns = gives_one find e.page.rows [] ns (b.least e.at e a.onwards less a.advanced) a.gives in
     let P : List ℕ → Type 0 = λ l. EndsAt find l e.at in
     let over : e.at ≡ find.until = subst P (sym none) a.ends in
     let within = ends_within find ms f.at b.ends in
     omega (arith, over, within, less)
 
-same_moment : (find : FindWait) (s e f : Session) (ns ms : List ℕ) → FindEnds find s e ns → FindEnds find s f ms → e.at ≡ f.at
-same_moment find s e f ns ms a b = by (nat_lt e.at f.at) (nat_lt f.at e.at) refl refl
+same_moment : {setting : Setting} (find : FindWait) (s e f : Session) (ns ms : List ℕ) → FindEnds setting find s e ns → FindEnds setting find s f ms → e.at ≡ f.at
+same_moment {setting} find s e f ns ms a b = by (nat_lt e.at f.at) (nat_lt f.at e.at) refl refl
   where
     by : (x y : Bool) → nat_lt e.at f.at ≡ x → nat_lt f.at e.at ≡ y → e.at ≡ f.at
     by true y p q = absurd (not_sooner find s e f ns ms a b (ltb-true e.at f.at p))
     by false true p q = absurd (not_sooner find s f e ms ns b a (ltb-true f.at e.at q))
     by false false p q = let l = ltb-false e.at f.at p in let m = ltb-false f.at e.at q in omega (arith, l, m)
 
-same_end : (find : FindWait) (s e f : Session) (ns ms : List ℕ) → FindEnds find s e ns → FindEnds find s f ms → e ≡ f
-same_end find s e f ns ms a b =
-    let P : ℕ → Type 0 = λ m. Advanced s m f in
+same_end : {setting : Setting} (find : FindWait) (s e f : Session) (ns ms : List ℕ) → FindEnds setting find s e ns → FindEnds setting find s f ms → e ≡ f
+same_end {setting} find s e f ns ms a b =
+    let P : ℕ → Type 0 = λ m. Advanced setting s m f in
     advanced_one s e f e.at a.advanced (subst P (sym (same_moment find s e f ns ms a b)) b.advanced)
 
-same_start : (until : ℕ) (s : Session) (l k : List Stage) (e f : Session) → Passes until s l e → Passes until s k f → e ≡ f → l ≡ k
-same_start until s l k e f (AtEnd x) (AtEnd y) same = refl
-same_start until s l k e f (AtEnd x) (Onwards y mid end stages less a rest) same = absurd (let t : x.at ≡ end.at = ap (λ (u : Session). u.at) same in omega (arith, t, less))
-same_start until s l k e f (Onwards x mid end stages less a rest) (AtEnd y) same = absurd (let t : end.at ≡ y.at = ap (λ (u : Session). u.at) same in omega (arith, t, less))
-same_start until s l k e f (Onwards x mid end stages less a rest) (Onwards y mid' end' stages' less' a' rest') same =
+same_start : {setting : Setting} (until : ℕ) (s : Session) (l k : List Stage) (e f : Session) → Passes setting until s l e → Passes setting until s k f → e ≡ f → l ≡ k
+same_start {setting} until s l k e f (AtEnd x) (AtEnd y) same = refl
+same_start {setting} until s l k e f (AtEnd x) (Onwards y mid end stages less a rest) same = absurd (let t : x.at ≡ end.at = ap (λ (u : Session). u.at) same in omega (arith, t, less))
+same_start {setting} until s l k e f (Onwards x mid end stages less a rest) (AtEnd y) same = absurd (let t : end.at ≡ y.at = ap (λ (u : Session). u.at) same in omega (arith, t, less))
+same_start {setting} until s l k e f (Onwards x mid end stages less a rest) (Onwards y mid' end' stages' less' a' rest') same =
     let mids : mid' ≡ mid = advanced_one x mid' mid (soonest until x.page.pending) a' a in
-    let P : Session → Type 0 = λ t. Passes until t stages' end' in
+    let P : Session → Type 0 = λ t. Passes setting until t stages' end' in
     let more : stages ≡ stages' = same_start until mid stages stages' end end' rest (subst P mids rest') same in
     ap (λ (t : Session). record { moment = soonest until x.page.pending; session = t } ∷ stages) (sym mids)
     ∙ ap (λ (l : List Stage). record { moment = soonest until x.page.pending; session = mid' } ∷ l) more
@@ -69,9 +70,9 @@ same_answer r q a b plans = (ap (λ (p : Plan). p.reply) plans, ap (λ (p : Plan
 plan_of : Reply → After → Option Session → List Stage → Plan
 plan_of r a b l = record { reply = r; after = a; begun = b; stages = l }
 
-find_one : (find : FindWait) (s : Session) (p q : Plan) → FindPlan find s p → FindPlan find s q → p ≡ q
+find_one : {setting : Setting} (find : FindWait) (s : Session) (p q : Plan) → FindPlan setting find s p → FindPlan setting find s q → p ≡ q
 unfolding plan_of
-find_one find s p q a b =
+find_one {setting} find s p q a b =
     let end : a.end ≡ b.end = same_end find s a.end b.end a.nodes b.nodes a.ends b.ends in
     let P : Session → Type 0 = λ e. Gives find e.page.rows b.nodes in
     let nodes : a.nodes ≡ b.nodes = gives_one find a.end.page.rows a.nodes b.nodes a.ends.gives (subst P (sym end) b.ends.gives) in
@@ -85,10 +86,10 @@ find_one find s p q a b =
     ∙ ap (λ (o : Option Session). plan_of q.reply q.after o p.stages) begun
     ∙ ap (λ (l : List Stage). plan_of q.reply q.after q.begun l) stages
 
-one_in : (waiting : Option Waiting) (s : Session) (p q : Plan) → PlansIn waiting s p → PlansIn waiting s q → p ≡ q
-one_in None s p q a b = absurd a
-one_in (Some (Find find)) s p q a b = find_one find s p q a b
-one_in (Some (Ended reply)) s p q a b = a ∙ sym b
+one_in : (setting : Setting) (waiting : Option Waiting) (s : Session) (p q : Plan) → PlansIn setting waiting s p → PlansIn setting waiting s q → p ≡ q
+one_in setting None s p q a b = absurd a
+one_in setting (Some (Find find)) s p q a b = find_one find s p q a b
+one_in setting (Some (Ended reply)) s p q a b = a ∙ sym b
 
 pub plans_are_one : PlansAreOne
-plans_are_one s p q a b = one_in s.waiting (settled s) p q a b
+plans_are_one setting s p q a b = one_in setting s.waiting (settled s) p q a b

@@ -32,10 +32,11 @@ use Rattle.remote_end.specs.Plan.{Plan, at_once}
 use Rattle.remote_end.specs.Resumed.{PlansAreThere}
 use Rattle.remote_end.specs.State.{After}
 use Rattle.remote_end.specs.Waits.{settled, PlansIn, next_in, IsSought, FindFits, Fits}
-use Rattle.remote_end.proofs.AdvanceMoreLemmas.{fewer_after}
-use Rattle.remote_end.proofs.AdvanceThere.{advanced_somewhere}
+use Rattle.remote_end.proofs.PageTimers.{fewer_after}
+use Rattle.remote_end.proofs.AdvanceMoreLemmas.{advanced_somewhere}
 use Rattle.remote_end.proofs.FindLemmas.{soonest_within, due_then, plan_there, plan_later}
 use Rattle.remote_end.proofs.WaitLemmas.{mid_fits, next_settled}
+use Rattle.remote_end.specs.declared.setting.Setting.{Setting}
 
 -- ---- what a find gives
 
@@ -80,53 +81,53 @@ nodes_there All s nodes = references_there s (handed_all s.known Element current
 
 -- ---- the plan of a find
 
-abbrev HasFindPlan : FindWait → Session → Type 0
-HasFindPlan find s = (plan : Plan) × FindPlan find s plan
+abbrev HasFindPlan : Setting → FindWait → Session → Type 0
+HasFindPlan setting find s = (plan : Plan) × FindPlan setting find s plan
 
-module _ (find : FindWait) (s : Session) (fits : FindFits find s.page s.at) where
+module _ (setting : Setting) (find : FindWait) (s : Session) (fits : FindFits find s.page s.at) where
   abbrev moment : ℕ
   moment = soonest find.until s.page.pending
 
   -- it ends at its next moment
-  ends : (end : Session) (nodes : List ℕ) → Advanced s moment end → Gives find end.page.rows nodes → EndsAt find nodes moment → HasFindPlan find s
+  ends : (end : Session) (nodes : List ℕ) → Advanced setting s moment end → Gives find end.page.rows nodes → EndsAt find nodes moment → HasFindPlan setting find s
   ends end nodes advanced gives at_end =
       let answer = nodes_there find.wanted end nodes in
-      (_, plan_there find s fits end nodes answer.0 answer.1 advanced gives at_end answer.2)
+      (_, plan_there setting find s fits end nodes answer.0 answer.1 advanced gives at_end answer.2)
 
   -- it goes on there, with fewer timers
-  goes : (mid : Session) → Advanced s moment mid → Gives find mid.page.rows [] → (early : Bool) → nat_lt moment find.until ≡ early
-      → (FindFits find mid.page mid.at → length mid.page.pending < length s.page.pending → HasFindPlan find mid) → HasFindPlan find s
+  goes : (mid : Session) → Advanced setting s moment mid → Gives find mid.page.rows [] → (early : Bool) → nat_lt moment find.until ≡ early
+      → (FindFits find mid.page mid.at → length mid.page.pending < length s.page.pending → HasFindPlan setting find mid) → HasFindPlan setting find s
   goes mid advanced gives true is again =
       let less : moment < find.until = ltb-true moment find.until is in
       let due = due_then find.until s.page.pending less in
       let within : due.1.0.0 ≤ moment = due.3 in
-      let fewer : length mid.page.pending < length s.page.pending = fewer_after moment s.page s.at mid.page advanced.page due.0 due.1 due.2 within in
+      let fewer : length mid.page.pending < length s.page.pending = fewer_after setting moment s.page s.at mid.page advanced.page due.0 due.1 due.2 within in
       let rest = again (mid_fits find s mid moment fits advanced gives less) fewer in
-      (_, plan_later find s fits mid rest.0 advanced rest.1)
+      (_, plan_later setting find s fits mid rest.0 advanced rest.1)
   goes mid advanced gives false is again =
       let late : find.until ≤ moment = ltb-false moment find.until is in
       let within = soonest_within find.until s.page.pending in
       ends mid [] advanced gives (omega (arith, late, within))
 
-  step : (mid : Session) → Advanced s moment mid → (nodes : List ℕ) → Gives find mid.page.rows nodes
-      → (FindFits find mid.page mid.at → length mid.page.pending < length s.page.pending → HasFindPlan find mid) → HasFindPlan find s
+  step : (mid : Session) → Advanced setting s moment mid → (nodes : List ℕ) → Gives find mid.page.rows nodes
+      → (FindFits find mid.page mid.at → length mid.page.pending < length s.page.pending → HasFindPlan setting find mid) → HasFindPlan setting find s
   step mid advanced [] gives again = goes mid advanced gives (nat_lt moment find.until) refl again
   step mid advanced (node ∷ nodes) gives again = ends mid (node ∷ nodes) advanced gives (soonest_within find.until s.page.pending)
 
-  from_here : ((mid : Session) → FindFits find mid.page mid.at → length mid.page.pending < length s.page.pending → HasFindPlan find mid) → HasFindPlan find s
+  from_here : ((mid : Session) → FindFits find mid.page mid.at → length mid.page.pending < length s.page.pending → HasFindPlan setting find mid) → HasFindPlan setting find s
   from_here again =
-      let next = advanced_somewhere s moment in
+      let next = advanced_somewhere setting s moment in
       let given = gives_there find next.0.page.rows fits.sought in
       step next.0 next.1 given.0 given.1 (again next.0)
 
-find_there : (most : ℕ) (find : FindWait) (s : Session) → FindFits find s.page s.at → length s.page.pending ≤ most → HasFindPlan find s
-find_there zero find s fits few = from_here find s fits (λ mid mid_fits fewer. absurd (omega (arith, few, fewer)))
-find_there (suc most) find s fits few = from_here find s fits (λ mid mid_fits fewer. find_there most find mid mid_fits (omega (arith, few, fewer)))
+find_there : (setting : Setting) (most : ℕ) (find : FindWait) (s : Session) → FindFits find s.page s.at → length s.page.pending ≤ most → HasFindPlan setting find s
+find_there setting zero find s fits few = from_here setting find s fits (λ mid mid_fits fewer. absurd (omega (arith, few, fewer)))
+find_there setting (suc most) find s fits few = from_here setting find s fits (λ mid mid_fits fewer. find_there setting most find mid mid_fits (omega (arith, few, fewer)))
 
-there_in : (waiting : Option Waiting) (s : Session) (until : ℕ) → Fits waiting s.page s.at → next_in waiting s ≡ Some until → (plan : Plan) × PlansIn waiting s plan
-there_in None s until fits next = absurd (let f : None ≡ Some until = next in cc)
-there_in (Some (Find find)) s until fits next = find_there (length s.page.pending) find s fits (omega arith)
-there_in (Some (Ended reply)) s until fits next = absurd fits
+there_in : (setting : Setting) (waiting : Option Waiting) (s : Session) (until : ℕ) → Fits waiting s.page s.at → next_in waiting s ≡ Some until → (plan : Plan) × PlansIn setting waiting s plan
+there_in setting None s until fits next = absurd (let f : None ≡ Some until = next in cc)
+there_in setting (Some (Find find)) s until fits next = find_there setting (length s.page.pending) find s fits (omega arith)
+there_in setting (Some (Ended reply)) s until fits next = absurd fits
 
 pub plans_are_there : PlansAreThere
-plans_are_there s kept until next = there_in s.waiting (settled s) until kept.fits (sym (next_settled s.waiting s) ∙ next)
+plans_are_there setting s kept until next = there_in setting s.waiting (settled s) until kept.fits (sym (next_settled s.waiting s) ∙ next)

@@ -12,6 +12,7 @@ use Rattle.remote_end.specs.Waits.{IsPlanOf}
 use Rattle.remote_end.specs.Outside.{Call, Now, Rest}
 use Rattle.remote_end.specs.Step.{Rests}
 use Rattle.remote_end.proofs.WaitLemmas.{not_yet, not_lt}
+use Rattle.remote_end.specs.declared.setting.Setting.{Setting}
 
 -- ---- rests
 
@@ -43,11 +44,12 @@ module _ (IsPlan : Plan → Type 0) (start : ℕ) where
     pub reply_is : rest.reply ≡ plan.reply
     pub after_is : rest.after ≡ plan.after
 
+module _ (setting : Setting) (IsPlan : Plan → Type 0) (start : ℕ) where
   -- where it waits: each plan that it has, with the rests that are to come, gives one that it had
   abbrev pub Known : List Call → ℕ → Session → Type 0
-  Known made r session = (rest : Plan) (more : List Call) → IsPlanOf session rest → Rests rest.stages r more → HasMade (made ++ more) rest
+  Known made r session = (rest : Plan) (more : List Call) → IsPlanOf setting session rest → Rests rest.stages r more → HasMade IsPlan start (made ++ more) rest
 
-  pub known_first : (number until : ℕ) (session : Session) → WaitsBy IsPlan start number until session → Known [] start session
+  pub known_first : (number until : ℕ) (session : Session) → WaitsBy setting IsPlan start number until session → Known [] start session
   known_first number until session waits rest more is rests =
       let lead = waits.leads rest is in
       let P : Plan → Type 0 = λ p. Rests p.stages start more in
@@ -59,10 +61,10 @@ module _ (IsPlan : Plan → Type 0) (start : ℕ) where
         after_is = ap (λ (p : Plan). p.after) lead.rest_is;
       }
 
-module _ (IsPlan : Plan → Type 0) (start r number until x : ℕ) (session : Session) (made : List Call) (known : Known IsPlan start made r session)
+module _ (setting : Setting) (IsPlan : Plan → Type 0) (start r number until x : ℕ) (session : Session) (made : List Call) (known : Known setting IsPlan start made r session)
     (less : r < until) (late : until ≤ x) where
   -- a plan of the session begins with a rest until its next moment
-  pub rested : (plan : Plan) (more : List Call) → IsPlanOf session plan → first_moment plan.stages ≡ Some until → Rests plan.stages x more → HasMade IsPlan start (made ++ Rest until x ∷ more) plan
+  pub rested : (plan : Plan) (more : List Call) → IsPlanOf setting session plan → first_moment plan.stages ≡ Some until → Rests plan.stages x more → HasMade IsPlan start (made ++ Rest until x ∷ more) plan
   rested plan more is first rests =
       let none = not_yet plan.stages plan.begun r until first less in
       let greatest : max r x ≡ x = omega (arith, less, late) in
@@ -70,8 +72,8 @@ module _ (IsPlan : Plan → Type 0) (start r number until x : ℕ) (session : Se
       known plan (Rest until x ∷ more) is (ap first_moment none.0 ∙ first, late, subst P (sym greatest) rests)
 
   -- the session waits again
-  pub known_next : (other next : ℕ) (left : Session) → WaitsBy (IsPlanOf session) x other next left → ((plan : Plan) → IsPlanOf session plan → first_moment plan.stages ≡ Some until)
-      → Known IsPlan start (made ++ Rest until x ∷ []) x left
+  pub known_next : (other next : ℕ) (left : Session) → WaitsBy setting (IsPlanOf setting session) x other next left → ((plan : Plan) → IsPlanOf setting session plan → first_moment plan.stages ≡ Some until)
+      → Known setting IsPlan start (made ++ Rest until x ∷ []) x left
   known_next other next left waits first rest more is rests =
       let lead = waits.leads rest is in
       let P : Plan → Type 0 = λ p. Rests p.stages x more in
@@ -86,12 +88,12 @@ module _ (IsPlan : Plan → Type 0) (start r number until x : ℕ) (session : Se
       }
 
   -- it has ended
-  pub made_all : (reply : Reply) (after : After) → EndsBy (IsPlanOf session) x reply after → ((plan : Plan) → IsPlanOf session plan → first_moment plan.stages ≡ Some until)
+  pub made_all : (reply : Reply) (after : After) → EndsBy (IsPlanOf setting session) x reply after → ((plan : Plan) → IsPlanOf setting session plan → first_moment plan.stages ≡ Some until)
       → (m : Plan) × HasMade IsPlan start (made ++ Rest until x ∷ []) m × (reply ≡ m.reply) × (after ≡ m.after)
   made_all reply after ends first = (ends.plan, rested ends.plan [] ends.is (first ends.plan ends.is) ends.over, ends.reply_is, ends.after_is)
 
 -- the first next moment of its plans is the moment until which it waits
-pub first_of : (IsPlan : Plan → Type 0) (r number until : ℕ) (session : Session) → WaitsBy IsPlan r number until session → (plan : Plan) → IsPlanOf session plan → first_moment plan.stages ≡ Some until
-first_of IsPlan r number until session waits plan is =
+pub first_of : {setting : Setting} (IsPlan : Plan → Type 0) (r number until : ℕ) (session : Session) → WaitsBy setting IsPlan r number until session → (plan : Plan) → IsPlanOf setting session plan → first_moment plan.stages ≡ Some until
+first_of {setting} IsPlan r number until session waits plan is =
     let lead = waits.leads plan is in
     ap (λ (p : Plan). first_moment p.stages) lead.rest_is ∙ lead.next

@@ -25,10 +25,10 @@ pub row_is : (setting : Setting) (order : Order) (s : Session) (command : Comman
 row_is setting order s command plan is row = let P : Command → Type 0 = λ other. IsOwn (row_of other) setting order s [] plan in subst P (sym is) row
 
 -- a row that comes to this with plans of one kind does with plans of another
-pub row_comes : (One Other : Plan → Type 0) → ((plan : Plan) → One plan → Other plan) → (outcome : Outcome) (s : Session) → RowComes One outcome s → RowComes Other outcome s
-row_comes One Other f (Replied reply) s comes = f (at_once reply (Leaves s)) comes
-row_comes One Other f (Ended reply) s comes = f (at_once reply Ends) comes
-row_comes One Other f Waits s comes = λ plan is. f plan (comes plan is)
+pub row_comes : (setting : Setting) (One Other : Plan → Type 0) → ((plan : Plan) → One plan → Other plan) → (outcome : Outcome) (s : Session) → RowComes setting One outcome s → RowComes setting Other outcome s
+row_comes setting One Other f (Replied reply) s comes = f (at_once reply (Leaves s)) comes
+row_comes setting One Other f (Ended reply) s comes = f (at_once reply Ends) comes
+row_comes setting One Other f Waits s comes = λ plan is. f plan (comes plan is)
 
 -- without needs
 pub free_row : (does : Session → List Call → Plan → Type 0) (order : Order) (s : Session) (plan : Plan) → does s [] plan → IsDone [] does order s [] plan
@@ -80,14 +80,14 @@ module _ (order : Order) (s : Session) where
       by (Err code) found =
           refused_row kind (λ t asked p. (name : NodeName) × IsItem kind order t name × AsksNothing (given t name) asked p) plan code found (refl, sym is ∙ ap (with_item s (given s)) found)
 
-  pub from_row : (setting : Setting) (wanted : Wanted) (kind : Kind) (plan : Plan) → FindsFrom wanted s (looked_up kind s (item_of order)) order.parameters plan
+  pub from_row : (setting : Setting) (wanted : Wanted) (kind : Kind) (plan : Plan) → FindsFrom setting wanted s (looked_up kind s (item_of order)) order.parameters plan
       → IsDone (OpenContext ∷ NoPrompt ∷ Item kind ∷ []) (FindFromRow wanted kind setting order) order s [] plan
   from_row setting wanted kind plan is = by (looked_up kind s (item_of order)) refl
     where
       by : (r : Result NodeName Code) → looked_up kind s (item_of order) ≡ r → IsDone (OpenContext ∷ NoPrompt ∷ Item kind ∷ []) (FindFromRow wanted kind setting order) order s [] plan
       by (Ok name) found =
-          let P : Result NodeName Code → Type 0 = λ r. FindsFrom wanted s r order.parameters plan in
+          let P : Result NodeName Code → Type 0 = λ r. FindsFrom setting wanted s r order.parameters plan in
           found_row kind (FindFromRow wanted kind setting order) plan name found (name, found, subst P found is)
       by (Err code) found =
-          let P : Result NodeName Code → Type 0 = λ r. FindsFrom wanted s r order.parameters plan in
+          let P : Result NodeName Code → Type 0 = λ r. FindsFrom setting wanted s r order.parameters plan in
           refused_row kind (FindFromRow wanted kind setting order) plan code found (refl, subst P found is)

@@ -38,12 +38,12 @@ removed_again [] place s = refl
 removed_again (t ∷ ts) zero s = refl
 removed_again (t ∷ ts) (suc i) s = ap (λ (l : List Session). t ∷ l) (removed_again ts i s)
 
-number_of : (IsPlan : Plan → Type 0) (r : ℕ) (s left : Session) (outcome : Outcome) → ComesTo IsPlan r outcome (Leaves left) → left.number ≡ s.number → NumberIs outcome s
-number_of IsPlan r s left (Replied reply) ends n = tt
-number_of IsPlan r s left (Wait number until) (session, after_is, waits) n = let same : left ≡ session = cc in waits.number_is ∙ ap (λ (t : Session). t.number) (sym same) ∙ n
+number_of : (setting : Setting) (IsPlan : Plan → Type 0) (r : ℕ) (s left : Session) (outcome : Outcome) → ComesTo setting IsPlan r outcome (Leaves left) → left.number ≡ s.number → NumberIs outcome s
+number_of setting IsPlan r s left (Replied reply) ends n = tt
+number_of setting IsPlan r s left (Wait number until) (session, after_is, waits) n = let same : left ≡ session = cc in waits.number_is ∙ ap (λ (t : Session). t.number) (sym same) ∙ n
 
 module _ (setting : Setting) (order : Order) (reading : ℕ) (old : List Session) (place : ℕ) (session : Session) (here : slice_get old place ≡ Some session)
-    (begun : Session) (advanced : Advanced session (start_of (Some session) reading) begun) where
+    (begun : Session) (advanced : Advanced setting session (start_of (Some session) reading) begun) where
   abbrev IsPlan : Plan → Type 0
   IsPlan plan = IsRow setting order begun [] plan
 
@@ -74,8 +74,8 @@ module _ (setting : Setting) (order : Order) (reading : ℕ) (old : List Session
   }
 
   -- it waits at its start, and is carried to it
-  pub waits_here : (waiting : Session) (new : List Session) (outcome : Outcome) → place < length old → waiting.number ≡ session.number → ((plan : Plan) → IsPlanOf waiting plan → IsPlan plan)
-      → GoesOn (slice_set old place waiting) place (start_of (Some session) reading) new outcome → RunsAt setting order reading old place new outcome
+  pub waits_here : (waiting : Session) (new : List Session) (outcome : Outcome) → place < length old → waiting.number ≡ session.number → ((plan : Plan) → IsPlanOf setting waiting plan → IsPlan plan)
+      → GoesOn setting (slice_set old place waiting) place (start_of (Some session) reading) new outcome → RunsAt setting order reading old place new outcome
   waits_here waiting new outcome within number plans goes = record {
     session = session;
     here = here;
@@ -84,11 +84,11 @@ module _ (setting : Setting) (order : Order) (reading : ℕ) (old : List Session
     after = Leaves goes.left;
     comes =
         let same : goes.session ≡ waiting = some_session goes.session waiting (sym goes.here ∙ here_set old place waiting within) in
-        let P : Session → Type 0 = λ s. (plan : Plan) → IsPlanOf s plan → IsPlan plan in
-        comes_of (IsPlanOf goes.session) IsPlan (subst P (sym same) plans) (start_of (Some session) reading) outcome (Leaves goes.left) goes.comes;
+        let P : Session → Type 0 = λ s. (plan : Plan) → IsPlanOf setting s plan → IsPlan plan in
+        comes_of setting (IsPlanOf setting goes.session) IsPlan (subst P (sym same) plans) (start_of (Some session) reading) outcome (Leaves goes.left) goes.comes;
     number =
         let same : goes.session ≡ waiting = some_session goes.session waiting (sym goes.here ∙ here_set old place waiting within) in
-        number_of (IsPlanOf goes.session) (start_of (Some session) reading) session goes.left outcome goes.comes (goes.number ∙ ap (λ (s : Session). s.number) same ∙ number);
+        number_of setting (IsPlanOf setting goes.session) (start_of (Some session) reading) session goes.left outcome goes.comes (goes.number ∙ ap (λ (s : Session). s.number) same ∙ number);
     left = goes.new_is ∙ set_again old place waiting goes.left;
   }
 
@@ -115,10 +115,10 @@ pub acts_in : (setting : Setting) (order : Order) (reading : ℕ) (old : State) 
     → ActsAt setting old order reading (with_sessions old new) outcome
 acts_in setting order reading old place new outcome rise is runs =
     let named : session_named order.route.session old.sessions ≡ Some runs.session = named_at order.route.session old.sessions place runs.session is runs.here in
-    let P : Option Session → Type 0 = λ s. ComesTo (IsActOf setting old order reading s []) (start_of s reading) outcome runs.after in
+    let P : Option Session → Type 0 = λ s. ComesTo setting (IsActOf setting old order reading s []) (start_of s reading) outcome runs.after in
     record {
       after = runs.after;
-      comes = subst P (sym named) (comes_of (IsRow setting order runs.begun []) (IsActOf setting old order reading (Some runs.session) [])
+      comes = subst P (sym named) (comes_of setting (IsRow setting order runs.begun []) (IsActOf setting old order reading (Some runs.session) [])
           (λ plan row. (runs.begun, runs.advanced, row)) (start_of (Some runs.session) reading) outcome runs.after runs.comes);
       named = named_by outcome runs.number;
       new_is = set_of order.route.session old place new runs.after is runs.left;
@@ -134,7 +134,7 @@ pub acts_alone : (setting : Setting) (order : Order) (reading : ℕ) (old new : 
     → RunsAlone setting order reading old order.route.session new reply
     → ActsAt setting old order reading new (Replied reply)
 acts_alone setting order reading old new reply is runs =
-    let P : Option Session → Type 0 = λ s. ComesTo (IsActOf setting old order reading s []) (start_of s reading) (Replied reply) runs.after in
+    let P : Option Session → Type 0 = λ s. ComesTo setting (IsActOf setting old order reading s []) (start_of s reading) (Replied reply) runs.after in
     record {
       after = runs.after;
       comes = subst P (sym (ap (at_place old.sessions) is)) (ends_at_once (IsActOf setting old order reading None []) (start_of None reading) reply runs.after runs.idle runs.act);

@@ -19,9 +19,9 @@ pub ends_at_once : (IsPlan : Plan → Type 0) (r : ℕ) (reply : Reply) (after :
 ends_at_once IsPlan r reply after idle is = record { plan = at_once reply after; is = is; over = refl; reply_is = refl; after_is = refl; idle = idle }
 
 -- a command that has one of these plans has one of those
-pub comes_of : (One Other : Plan → Type 0) → ((plan : Plan) → One plan → Other plan) → (r : ℕ) (outcome : Outcome) (after : After) → ComesTo One r outcome after → ComesTo Other r outcome after
-comes_of One Other f r (Replied reply) after e = record { plan = e.plan; is = f e.plan e.is; over = e.over; reply_is = e.reply_is; after_is = e.after_is; idle = e.idle }
-comes_of One Other f r (Wait number until) after (session, left, w) = (
+pub comes_of : (setting : Setting) (One Other : Plan → Type 0) → ((plan : Plan) → One plan → Other plan) → (r : ℕ) (outcome : Outcome) (after : After) → ComesTo setting One r outcome after → ComesTo setting Other r outcome after
+comes_of setting One Other f r (Replied reply) after e = record { plan = e.plan; is = f e.plan e.is; over = e.over; reply_is = e.reply_is; after_is = e.after_is; idle = e.idle }
+comes_of setting One Other f r (Wait number until) after (session, left, w) = (
   session,
   left,
   record {

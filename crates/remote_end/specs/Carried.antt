@@ -9,6 +9,7 @@ use Rattle.remote_end.specs.State.{After, Same, Leaves, Ends, Opens}
 use Rattle.remote_end.specs.Plan.{Plan}
 use Rattle.remote_end.specs.Moments.{next_after, stand, rest_of}
 use Rattle.remote_end.specs.Waits.{settled, IsPlanOf, next_moment}
+use Rattle.remote_end.specs.declared.setting.Setting.{Setting}
 
 -- nothing waits in the session that a command leaves
 abbrev pub LeavesIdle : After → Type 0
@@ -36,17 +37,17 @@ pub record LeadsTo (IsPlan : Plan → Type 0) (r until : ℕ) (session : Session
   pub rest_is : rest ≡ rest_of plan r
 
 -- the command waits in its session
-pub record WaitsBy (IsPlan : Plan → Type 0) (r number until : ℕ) (session : Session) : Type 0 where
+pub record WaitsBy (setting : Setting) (IsPlan : Plan → Type 0) (r number until : ℕ) (session : Session) : Type 0 where
   pub number_is : number ≡ session.number
   pub next : next_moment session ≡ Some until
   pub later : r < until
   -- each plan that it then has is what is left of one of these
-  pub leads : (rest : Plan) → IsPlanOf session rest → LeadsTo IsPlan r until session rest
+  pub leads : (rest : Plan) → IsPlanOf setting session rest → LeadsTo IsPlan r until session rest
 
 -- a command with one of these plans is carried to r
-abbrev pub ComesTo : (Plan → Type 0) → ℕ → Outcome → After → Type 0
-ComesTo IsPlan r (Replied reply) after = EndsBy IsPlan r reply after
-ComesTo IsPlan r (Wait number until) after = (session : Session) × (after ≡ Leaves session) × WaitsBy IsPlan r number until session
+abbrev pub ComesTo : Setting → (Plan → Type 0) → ℕ → Outcome → After → Type 0
+ComesTo setting IsPlan r (Replied reply) after = EndsBy IsPlan r reply after
+ComesTo setting IsPlan r (Wait number until) after = (session : Session) × (after ≡ Leaves session) × WaitsBy setting IsPlan r number until session
 
 -- the status of the reply, where it ends
 abbrev pub HasStatus : Outcome → Type 0

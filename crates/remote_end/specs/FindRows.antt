@@ -23,12 +23,12 @@ use Rattle.remote_end.specs.State.{Leaves}
 
 -- in the document
 abbrev pub FindRow : Wanted → Setting → Order → Session → List Call → Plan → Type 0
-FindRow wanted setting order s asked plan = IsFind (find_of wanted s None order.parameters) s asked plan
+FindRow wanted setting order s asked plan = IsFind setting (find_of wanted s None order.parameters) s asked plan
 
 -- below the element or the shadow root that the path names
 abbrev pub FindFromRow : Wanted → Kind → Setting → Order → Session → List Call → Plan → Type 0
 FindFromRow wanted kind setting order s asked plan =
-    (name : NodeName) × IsItem kind order s name × IsFind (find_of wanted s (Some name) order.parameters) s asked plan
+    (name : NodeName) × IsItem kind order s name × IsFind setting (find_of wanted s (Some name) order.parameters) s asked plan
 
 -- the reference of a host's shadow root
 abbrev pub root_plan : Session → Option ℕ → Plan

@@ -11,6 +11,7 @@ use Rattle.remote_end.specs.declared.waiting.FindWait.{FindWait}
 use Rattle.remote_end.specs.Advance.{Advanced}
 use Rattle.remote_end.specs.Elements.{is_current}
 use Rattle.remote_end.specs.Plan.{Stage}
+use Rattle.remote_end.specs.declared.setting.Setting.{Setting}
 
 -- ---- what a find gives
 
@@ -42,12 +43,12 @@ EndsAt find (node ∷ nodes) moment = moment ≤ find.until
 -- A find that a session begins ends at the least moment of its span at which the page, advanced to that moment,
 -- gives a node: at each moment before, whatever moment it is, the page advanced to that one gives none. Where there
 -- is no such moment in the span, it ends at the end of it, with nothing.
-pub record FindEnds (find : FindWait) (s end : Session) (nodes : List ℕ) : Type 0 where
+pub record FindEnds (setting : Setting) (find : FindWait) (s end : Session) (nodes : List ℕ) : Type 0 where
   pub onwards : s.at ≤ end.at
-  pub advanced : Advanced s end.at end
+  pub advanced : Advanced setting s end.at end
   pub gives : Gives find end.page.rows nodes
   pub ends : EndsAt find nodes end.at
-  pub least : (m : ℕ) (mid : Session) → s.at ≤ m → m < end.at → Advanced s m mid → Gives find mid.page.rows []
+  pub least : (m : ℕ) (mid : Session) → s.at ≤ m → m < end.at → Advanced setting s m mid → Gives find mid.page.rows []
 
 -- ---- its next moments
 
@@ -58,7 +59,7 @@ soonest until (timer ∷ timers) = min timer.0.0 (soonest until timers)
 
 -- The next moments of a session that is to come to an end before or at that moment: each is the least of it and the
 -- moments at which pending timers are due, and the session advances to it.
-pub data Passes (until : ℕ) : Session → List Stage → Session → Type 0 where
-  AtEnd : (end : Session) → Passes until end [] end
-  Onwards : (s mid end : Session) (stages : List Stage) → s.at < end.at → Advanced s (soonest until s.page.pending) mid → Passes until mid stages end
-      → Passes until s (record { moment = soonest until s.page.pending; session = mid } ∷ stages) end
+pub data Passes (setting : Setting) (until : ℕ) : Session → List Stage → Session → Type 0 where
+  AtEnd : (end : Session) → Passes setting until end [] end
+  Onwards : (s mid end : Session) (stages : List Stage) → s.at < end.at → Advanced setting s (soonest until s.page.pending) mid → Passes setting until mid stages end
+      → Passes setting until s (record { moment = soonest until s.page.pending; session = mid } ∷ stages) end

@@ -30,6 +30,7 @@ use Rattle.remote_end.specs.Elements.{current_document}
 use Rattle.remote_end.specs.Handing.{with_reference}
 use Rattle.remote_end.specs.Replies.{success, failure}
 use Rattle.remote_end.specs.Values.{reference_values}
+use Rattle.remote_end.specs.declared.setting.Setting.{Setting}
 
 -- ---- what a find is asked
 
@@ -73,12 +74,12 @@ BegunIs [] begun s = begun ≡ None
 BegunIs (stage ∷ stages) begun s = begun ≡ Some s
 
 -- the plan of a find that a session begins: what it answers at its end, and its next moments until then
-pub record FindPlan (find : FindWait) (s : Session) (plan : Plan) : Type 0 where
+pub record FindPlan (setting : Setting) (find : FindWait) (s : Session) (plan : Plan) : Type 0 where
   pub end : Session
   pub nodes : List ℕ
   pub begun : BegunIs plan.stages plan.begun s
-  pub ends : FindEnds find s end nodes
-  pub passes : Passes find.until s plan.stages end
+  pub ends : FindEnds setting find s end nodes
+  pub passes : Passes setting find.until s plan.stages end
   pub answers : nodes_plan find.wanted end nodes ≡ at_once plan.reply plan.after
 
 -- the find that a command asks for, below a node or in the document, for as long as the implicit timeout
@@ -92,13 +93,13 @@ find_of wanted s start parameters = record {
 }
 
 -- It is refused at once where its text is to be a selector and is none.
-pub data IsFind (find : FindWait) (s : Session) (asked : List Call) (plan : Plan) : Type 0 where
-  Refused : Refuses find.by find.text Invalid → AsksNothing (at_once (failure InvalidSelector) (Leaves s)) asked plan → IsFind find s asked plan
-  Looks : FindPlan find s plan → asked ≡ [] → IsFind find s asked plan
+pub data IsFind (setting : Setting) (find : FindWait) (s : Session) (asked : List Call) (plan : Plan) : Type 0 where
+  Refused : Refuses find.by find.text Invalid → AsksNothing (at_once (failure InvalidSelector) (Leaves s)) asked plan → IsFind setting find s asked plan
+  Looks : FindPlan setting find s plan → asked ≡ [] → IsFind setting find s asked plan
 
 -- ---- for private clauses
 
 -- a find below what was looked up
-abbrev pub FindsFrom : Wanted → Session → Result NodeName Code → Json → Plan → Type 0
-FindsFrom wanted s (Err code) parameters plan = plan ≡ at_once (failure code) (Leaves s)
-FindsFrom wanted s (Ok name) parameters plan = IsFind (find_of wanted s (Some name) parameters) s [] plan
+abbrev pub FindsFrom : Setting → Wanted → Session → Result NodeName Code → Json → Plan → Type 0
+FindsFrom setting wanted s (Err code) parameters plan = plan ≡ at_once (failure code) (Leaves s)
+FindsFrom setting wanted s (Ok name) parameters plan = IsFind setting (find_of wanted s (Some name) parameters) s [] plan

@@ -39,7 +39,7 @@ IsRow setting order s asked plan = IsOwn (row_of order.route.command) setting or
 abbrev pub IsActOf : Setting → State → Order → ℕ → Option Session → List Call → Plan → Type 0
 IsActOf setting state order reading None asked plan = IsAlone (row_of order.route.command) setting state order.parameters reading asked plan
 IsActOf setting state order reading (Some s) asked plan =
-    (begun : Session) × Advanced s (start_of (Some s) reading) begun × IsRow setting order begun asked plan
+    (begun : Session) × Advanced setting s (start_of (Some s) reading) begun × IsRow setting order begun asked plan
 
 -- what a request does that is begun with a reading; one that is refused advances no session
 abbrev pub IsActFor : Setting → State → Result Order Code → ℕ → List Call → Plan → Type 0
@@ -82,26 +82,26 @@ pub record Begins (setting : Setting) (old : State) (request : Request) (reading
   pub meaning : Result Order Code
   pub means : Means old request meaning
   pub after : After
-  pub comes : ComesTo (IsActFor setting old meaning reading []) (start_of (session_named (own meaning) old.sessions) reading) outcome after
+  pub comes : ComesTo setting (IsActFor setting old meaning reading []) (start_of (session_named (own meaning) old.sessions) reading) outcome after
   pub named : IsNamed outcome (own meaning) old.sessions
   pub new_is : new ≡ changed old (own meaning) after
 
 -- the command that waits in the session at that place is carried to a reading; no other session changes
-pub record GoesOn (old : List Session) (place reading : ℕ) (new : List Session) (outcome : Outcome) : Type 0 where
+pub record GoesOn (setting : Setting) (old : List Session) (place reading : ℕ) (new : List Session) (outcome : Outcome) : Type 0 where
   pub session : Session
   pub here : slice_get old place ≡ Some session
   pub left : Session
-  pub comes : ComesTo (IsPlanOf session) reading outcome (Leaves left)
+  pub comes : ComesTo setting (IsPlanOf setting session) reading outcome (Leaves left)
   pub number : left.number ≡ session.number
   -- a reading that reaches the next moment leaves it fewer
   pub fewer : (until : ℕ) → next_moment session ≡ Some until → until ≤ reading → left_of left < left_of session
   pub new_is : new ≡ slice_set old place left
 
 -- the command that waits in the session with that number is resumed with a reading
-pub record Resumes (old : State) (number reading : ℕ) (new : State) (outcome : Outcome) : Type 0 where
+pub record Resumes (setting : Setting) (old : State) (number reading : ℕ) (new : State) (outcome : Outcome) : Type 0 where
   pub place : ℕ
   pub place_is : place_numbered number old.sessions ≡ Some place
-  pub goes : GoesOn old.sessions place reading new.sessions outcome
+  pub goes : GoesOn setting old.sessions place reading new.sessions outcome
   pub next : new.next ≡ old.next
 
 -- no command waits in the session that a request's path names
@@ -113,7 +113,7 @@ IsFree state request = (number : ℕ) → session_of (target_bytes request) stat
 -- a command, begun with a reading, comes to this
 pub record ActsAt (setting : Setting) (old : State) (order : Order) (reading : ℕ) (new : State) (outcome : Outcome) : Type 0 where
   pub after : After
-  pub comes : ComesTo (IsActOf setting old order reading (session_named order.route.session old.sessions) []) (start_of (session_named order.route.session old.sessions) reading) outcome after
+  pub comes : ComesTo setting (IsActOf setting old order reading (session_named order.route.session old.sessions) []) (start_of (session_named order.route.session old.sessions) reading) outcome after
   pub named : IsNamed outcome order.route.session old.sessions
   pub new_is : new ≡ changed old order.route.session after
 
@@ -147,21 +147,21 @@ pub record RunsAt (setting : Setting) (order : Order) (reading : ℕ) (old : Lis
   pub session : Session
   pub here : slice_get old place ≡ Some session
   pub begun : Session
-  pub advanced : Advanced session (start_of (Some session) reading) begun
+  pub advanced : Advanced setting session (start_of (Some session) reading) begun
   pub after : After
-  pub comes : ComesTo (IsRow setting order begun []) (start_of (Some session) reading) outcome after
+  pub comes : ComesTo setting (IsRow setting order begun []) (start_of (Some session) reading) outcome after
   pub number : NumberIs outcome session
   pub left : AreLeft old place new after
 
 -- A row has a reply, which leaves the session or ends it, at once, or its command waits in the session with one of
 -- these plans.
-abbrev pub RowComes : (Plan → Type 0) → RowOutcome → Session → Type 0
-RowComes IsPlan (RowReplied reply) new = IsPlan (at_once reply (Leaves new))
-RowComes IsPlan (RowEnded reply) new = IsPlan (at_once reply Ends)
-RowComes IsPlan RowWaits new = (plan : Plan) → IsPlanOf new plan → IsPlan plan
+abbrev pub RowComes : Setting → (Plan → Type 0) → RowOutcome → Session → Type 0
+RowComes setting IsPlan (RowReplied reply) new = IsPlan (at_once reply (Leaves new))
+RowComes setting IsPlan (RowEnded reply) new = IsPlan (at_once reply Ends)
+RowComes setting IsPlan RowWaits new = (plan : Plan) → IsPlanOf setting new plan → IsPlan plan
 
 -- the command of a session, begun at a moment, comes to this
 pub record BeginsIn (setting : Setting) (order : Order) (start : ℕ) (old : Session) (outcome : RowOutcome) (new : Session) : Type 0 where
   pub begun : Session
-  pub advanced : Advanced old start begun
-  pub comes : RowComes (IsRow setting order begun []) outcome new
+  pub advanced : Advanced setting old start begun
+  pub comes : RowComes setting (IsRow setting order begun []) outcome new

@@ -20,6 +20,7 @@ use Rattle.remote_end.specs.Plan.{Plan, at_once}
 use Rattle.remote_end.specs.Advance.{Advanced, NoneDue}
 use Rattle.remote_end.specs.FindSpans.{Gives, EndsAt, soonest}
 use Rattle.remote_end.specs.Finds.{nodes_plan, FindPlan}
+use Rattle.remote_end.specs.declared.setting.Setting.{Setting}
 
 -- the session without its command
 abbrev pub settled : Session → Session
@@ -30,14 +31,14 @@ with_waiting s waiting = record s { waiting = Some waiting }
 
 -- ---- what is left of its plan
 
-abbrev pub PlansIn : Option Waiting → Session → Plan → Type 0
-PlansIn None s plan = ⊥
-PlansIn (Some (Find find)) s plan = FindPlan find s plan
-PlansIn (Some (Ended reply)) s plan = plan ≡ at_once reply (Leaves s)
+abbrev pub PlansIn : Setting → Option Waiting → Session → Plan → Type 0
+PlansIn setting None s plan = ⊥
+PlansIn setting (Some (Find find)) s plan = FindPlan setting find s plan
+PlansIn setting (Some (Ended reply)) s plan = plan ≡ at_once reply (Leaves s)
 
 -- the plan of the command that waits in a session, from here on
-abbrev pub IsPlanOf : Session → Plan → Type 0
-IsPlanOf s plan = PlansIn s.waiting (settled s) plan
+abbrev pub IsPlanOf : Setting → Session → Plan → Type 0
+IsPlanOf setting s plan = PlansIn setting s.waiting (settled s) plan
 
 -- ---- its next moment
 
@@ -74,21 +75,25 @@ left_of s = left_in s.waiting s.page
 
 -- The session advances, and the find is looked at again. It goes on where it gives no node before the end of its
 -- span; else it has ended.
-pub data FindSteps (find : FindWait) (old : Session) (moment : ℕ) (new : Session) : Type 0 where
-  GoesOn : (mid : Session) → Advanced old moment mid → Gives find mid.page.rows [] → moment < find.until
-      → new ≡ with_waiting mid (Find find) → FindSteps find old moment new
-  HasEnded : (end left : Session) (nodes : List ℕ) (reply : Reply) → Advanced old moment end → Gives find end.page.rows nodes → EndsAt find nodes moment
-      → nodes_plan find.wanted end nodes ≡ at_once reply (Leaves left) → new ≡ with_waiting left (Ended reply) → FindSteps find old moment new
+pub data FindSteps (setting : Setting) (find : FindWait) (old : Session) (moment : ℕ) (new : Session) : Type 0 where
+  GoesOn : (mid : Session) → Advanced setting old moment mid → Gives find mid.page.rows [] → moment < find.until
+      → new ≡ with_waiting mid (Find find) → FindSteps setting find old moment new
+  HasEnded : (end left : Session) (nodes : List ℕ) (reply : Reply) → Advanced setting old moment end → Gives find end.page.rows nodes → EndsAt find nodes moment
+      → nodes_plan find.wanted end nodes ≡ at_once reply (Leaves left) → new ≡ with_waiting left (Ended reply) → FindSteps setting find old moment new
 
-abbrev pub StepsIn : Option Waiting → Session → ℕ → Session → Type 0
-StepsIn None old moment new = ⊥
-StepsIn (Some (Find find)) old moment new = FindSteps find old moment new
-StepsIn (Some (Ended reply)) old moment new = ⊥
+abbrev pub StepsIn : Setting → Option Waiting → Session → ℕ → Session → Type 0
+StepsIn setting None old moment new = ⊥
+StepsIn setting (Some (Find find)) old moment new = FindSteps setting find old moment new
+StepsIn setting (Some (Ended reply)) old moment new = ⊥
 
-abbrev pub StepsAt : Session → ℕ → Session → Type 0
-StepsAt old moment new = StepsIn old.waiting (settled old) moment new
+abbrev pub StepsAt : Setting → Session → ℕ → Session → Type 0
+StepsAt setting old moment new = StepsIn setting old.waiting (settled old) moment new
 
 -- ---- for private clauses
+
+-- in a setting, which stays
+abbrev pub StepsGoing : Setting × Session → ℕ → Setting × Session → Type 0
+StepsGoing old moment new = StepsAt old.0 old.1 moment new.1 × (new.0 ≡ old.0)
 
 -- a text that is to be a selector is one
 abbrev pub IsSought : By → List ℕ → Type 0

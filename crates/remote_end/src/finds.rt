@@ -7,6 +7,7 @@ ghost use Rattle.remote_end.specs.Elements.{looked_up};
 ghost use Rattle.remote_end.specs.Finds.{strategy_of, strategy_in, value_in, first_plan, nodes_plan, find_of, IsFind, FindsFrom};
 ghost use Rattle.remote_end.specs.Advance.{NoneDue};
 ghost use Rattle.remote_end.specs.FindSpans.{StartsIn};
+ghost use Rattle.remote_end.specs.declared.setting.Setting.{Setting};
 ghost use Rattle.remote_end.specs.Plan.{at_once};
 ghost use Rattle.remote_end.specs.Step.{RowComes};
 ghost use Rattle.remote_end.specs.Waits.{RowLeaves};
@@ -151,7 +152,7 @@ fn begin_find(alloc: Global, session: &mut Session, find: FindWait) -> Result<Ou
     requires starts { StartsIn find.start session.old.page.rows }
     requires onwards { session.old.at ≤ find.until }
     requires within { find.until ≤ last_moment }
-    ensures comes { IfOk result (λ outcome. RowComes (IsFind find session.old []) outcome session.new) }
+    ensures comes { (setting : Setting) → IfOk result (λ outcome. RowComes setting (IsFind setting find session.old []) outcome session.new) }
     ensures leaves { IfOk result (λ outcome. RowLeaves outcome session.new) }
     ensures kept { OnOk result (IsWhole session.new × (session.new.number ≡ session.old.number)) }
 {
@@ -207,7 +208,7 @@ pub(crate) fn find_in(
     requires idle { session.old.waiting ≡ None }
     requires still { NoneDue session.old.page.pending session.old.at }
     requires starts { StartsIn start session.old.page.rows }
-    ensures comes { IfOk result (λ outcome. RowComes (IsFind (find_of wanted session.old start parameters.now) session.old []) outcome session.new) }
+    ensures comes { (setting : Setting) → IfOk result (λ outcome. RowComes setting (IsFind setting (find_of wanted session.old start parameters.now) session.old []) outcome session.new) }
     ensures leaves { IfOk result (λ outcome. RowLeaves outcome session.new) }
     ensures kept { OnOk result (IsWhole session.new × (session.new.number ≡ session.old.number)) }
 {
@@ -229,7 +230,7 @@ pub(crate) fn find_from(
     requires idle { session.old.waiting ≡ None }
     requires still { NoneDue session.old.page.pending session.old.at }
     requires node_kind { is_node_kind kind ≡ true }
-    ensures comes { IfOk result (λ outcome. RowComes (FindsFrom wanted session.old (looked_up kind session.old item.now) parameters.now) outcome session.new) }
+    ensures comes { (setting : Setting) → IfOk result (λ outcome. RowComes setting (FindsFrom setting wanted session.old (looked_up kind session.old item.now) parameters.now) outcome session.new) }
     ensures leaves { IfOk result (λ outcome. RowLeaves outcome session.new) }
     ensures kept { OnOk result (IsWhole session.new × (session.new.number ≡ session.old.number)) }
 {

@@ -2,12 +2,13 @@ ghost use Rattle.std.specs.Prelude.{◌≡◌, ◌<◌, ◌≤◌, ◌+◌, Some
 ghost use Rattle.waits.specs.Moments.{last_moment};
 ghost use Rattle.remote_end.specs.FindSpans.{soonest};
 ghost use Rattle.remote_end.specs.State.{IsWhole};
-ghost use Rattle.remote_end.specs.Waits.{next_moment, StepsAt, StepsIn, FindSteps, FindFits, FitsOrEnded, IsGoing, left_of, left_in, next_in};
+ghost use Rattle.remote_end.specs.Waits.{next_moment, StepsAt, StepsIn, StepsGoing, FindSteps, FindFits, FitsOrEnded, IsGoing, left_of, left_in, next_in};
 
 use crate::advance::advance;
 use crate::finds::nodes_reply;
 use crate::looks::{goes_on, look};
 use crate::session::Session;
+use crate::setting::Setting;
 use crate::waiting::{FindWait, Waiting};
 use page_engine::Page;
 use selectors::SelFault;
@@ -40,16 +41,22 @@ pub(crate) fn next_moment(session: &Session) -> Option<u64>
 }
 
 /// A find is looked at again, at its next moment.
-fn find_at(alloc: Global, session: &mut Session, find: FindWait, moment: u64) -> Result<(), Memory>
+fn find_at(
+    alloc: Global,
+    setting: &Setting,
+    session: &mut Session,
+    find: FindWait,
+    moment: u64,
+) -> Result<(), Memory>
     requires whole { IsWhole session.old }
     requires idle { session.old.waiting ≡ None }
     requires fits { FindFits find session.old.page session.old.at }
     requires next { moment ≡ soonest find.until session.old.page.pending }
-    ensures step { OnOk result (FindSteps find session.old moment session.new) }
+    ensures step { OnOk result (FindSteps setting.now find session.old moment session.new) }
     ensures going { OnOk result (IsGoing session.new) }
     ensures fewer { OnOk result (left_of session.new < length session.old.page.pending + 1) }
 {
-    advance(session, moment)?;
+    advance(setting, session, moment)?;
     let nodes = match look(alloc, session.page.document(), &find) {
         Ok(nodes) => nodes,
         Err(SelFault::Memory) => return Err(Memory),
@@ -67,6 +74,7 @@ fn find_at(alloc: Global, session: &mut Session, find: FindWait, moment: u64) ->
 /// What waited in a session is carried on at its next moment.
 fn waited_at(
     alloc: Global,
+    setting: &Setting,
     session: &mut Session,
     waiting: Waiting,
     moment: u64,
@@ -75,64 +83,71 @@ fn waited_at(
     requires idle { session.old.waiting ≡ None }
     requires fits { FitsOrEnded (Some waiting) session.old.page session.old.at }
     requires next { next_in (Some waiting) session.old ≡ Some moment }
-    ensures step { OnOk result (StepsIn (Some waiting) session.old moment session.new) }
+    ensures step { OnOk result (StepsIn setting.now (Some waiting) session.old moment session.new) }
     ensures going { OnOk result (IsGoing session.new) }
     ensures fewer { OnOk result (left_of session.new < left_in (Some waiting) session.old.page) }
 {
     match waiting {
-        Waiting::Find(find) => find_at(alloc, session, find, moment),
+        Waiting::Find(find) => find_at(alloc, setting, session, find, moment),
         Waiting::Ended(_) => unreachable!(),
     }
 }
 
 /// The command that waits in a session is carried on at its next moment.
-fn step_at(alloc: Global, session: &mut Session, moment: u64) -> Result<(), Memory>
+fn step_at(
+    alloc: Global,
+    setting: &Setting,
+    session: &mut Session,
+    moment: u64,
+) -> Result<(), Memory>
     requires going { IsGoing session.old }
     requires next { next_moment session.old ≡ Some moment }
-    ensures step { OnOk result (StepsAt session.old moment session.new) }
+    ensures step { OnOk result (StepsAt setting.now session.old moment session.new) }
     ensures going { OnOk result (IsGoing session.new) }
     ensures fewer { OnOk result (left_of session.new < left_of session.old) }
 {
     match session.waiting.take() {
-        Some(waiting) => waited_at(alloc, session, waiting, moment),
+        Some(waiting) => waited_at(alloc, setting, session, waiting, moment),
         None => unreachable!(),
     }
 }
 
-/// A session whose command goes on, with what its steps take memory from.
+/// A session whose command goes on, in its setting, with what its steps take memory from.
 #[derive(Drop)]
-pub(crate) struct Going {
+pub(crate) struct Going<'a> {
     pub(crate) alloc: Global,
+    pub(crate) setting: &'a Setting,
     pub(crate) session: Session,
 }
 
-impl Model for Going {
+impl<'a> Model for Going<'a> {
     ghost use Rattle.remote_end.specs.declared.session.Session.{Session};
+    ghost use Rattle.remote_end.specs.declared.setting.Setting.{Setting};
     ghost use Rattle.std.specs.Coded.{codes};
     ghost use Rattle.page_engine.specs.contracts.effect.Effect as effect;
     ghost use Rattle.wd_json.specs.contracts.value.Json as json;
 
-    ghost Value = { Session };
+    ghost Value = { Setting × Session };
 
     ghost coded = { Prim.hlevel (codes, json.the_row.coded, effect.the_row.coded) };
 
-    ghost view = { λ going. going.session };
+    ghost view = { λ going. (going.setting.now, going.session) };
 }
 
-impl Activity for Going {
-    ghost next_of = { next_moment };
+impl<'a> Activity for Going<'a> {
+    ghost next_of = { λ going. next_moment going.1 };
 
-    ghost step = { StepsAt };
+    ghost step = { StepsGoing };
 
-    ghost left = { left_of };
+    ghost left = { λ going. left_of going.1 };
 
-    ghost whole = { IsGoing };
+    ghost whole = { λ going. IsGoing going.1 };
 
     fn next(&self) -> Option<u64> {
         next_moment(&self.session)
     }
 
     fn at(&mut self, moment: u64) -> Result<(), Memory> {
-        step_at(self.alloc, &mut self.session, moment)
+        step_at(self.alloc, self.setting, &mut self.session, moment)
     }
 }

@@ -139,10 +139,11 @@ impl Remote {
         session_of(&self.sessions, request.target.as_str())
     }
 
-    /// Whether a request may be begun: no command waits in the session that its path names. It takes no memory.
+    /// Whether a request may be begun: exactly where no command waits in the session that its path names. It takes no
+    /// memory.
     pub fn is_free(&self, request: &Request) -> bool
         requires { self.now.spent ≡ false }
-        ensures { IsTrue result → IsFree self.now.state request.now }
+        ensures { IsTrue result ↔ IsFree self.now.state request.now }
     {
         match self.session_of(request) {
             Some(session) => self.busy(session).is_none(),
@@ -187,14 +188,14 @@ impl Remote {
     fn carry_on(&mut self, session: u32, now: u64) -> Result<Step, Memory>
         requires alive { self.old.spent ≡ false }
         requires busy { IfSome (busy_of session self.old.state.sessions) (λ until. until ≤ now) × IsSome (busy_of session self.old.state.sessions) }
-        ensures resumes { IfOk result (Resumes self.old.state session now self.new.state) }
+        ensures resumes { IfOk result (Resumes self.old.setting self.old.state session now self.new.state) }
         ensures kept { OnOk result (self.new ≡ record self.old { state = self.new.state; taken = self.old.taken ++ Reading now ∷ [] }) }
         ensures status { IfOk result HasStatus }
         ensures memory { OnErr result (self.new.spent ≡ true) }
     {
         self.spent = true;
         self.taken.push(Taken::Reading(now))?;
-        let step = resume(self.alloc, &mut self.sessions, session, now)?;
+        let step = resume(self.alloc, &self.setting, &mut self.sessions, session, now)?;
         self.spent = false;
         Ok(step)
     }
@@ -204,7 +205,7 @@ impl Remote {
     pub fn resume(&mut self, session: u32, now: u64) -> Result<Step, Memory>
         requires alive { self.old.spent ≡ false }
         requires busy { IsSome (busy_of session self.old.state.sessions) }
-        ensures resumes { (until : ℕ) → busy_of session self.old.state.sessions ≡ Some until → until ≤ now → IfOk result (Resumes self.old.state session now self.new.state) }
+        ensures resumes { (until : ℕ) → busy_of session self.old.state.sessions ≡ Some until → until ≤ now → IfOk result (Resumes self.old.setting self.old.state session now self.new.state) }
         ensures kept { (until : ℕ) → busy_of session self.old.state.sessions ≡ Some until → until ≤ now → OnOk result (self.new ≡ record self.old { state = self.new.state; taken = self.old.taken ++ Reading now ∷ [] }) }
         ensures early { (until : ℕ) → busy_of session self.old.state.sessions ≡ Some until → now < until → (result ≡ Ok (Step.Wait session until)) × (self.new ≡ self.old) }
         ensures status { IfOk result HasStatus }

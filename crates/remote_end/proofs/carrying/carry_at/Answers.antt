@@ -2,6 +2,7 @@ use Rattle.std.proofs.Common.{◌≡◌, List, length, slice_get, slice_set, sym
 use Rattle.std.specs.List.{insert}
 use Rattle.std.proofs.lemmas.Option.{slice_get_read}
 use Rattle.remote_end.specs.declared.session.Session.{Session}
+use Rattle.remote_end.specs.declared.setting.Setting.{Setting}
 use Rattle.remote_end.specs.Waits.{IsKept}
 use Rattle.remote_end.proofs.NumberLemmas.{insert_removed}
 use Rattle.remote_end.proofs.RunAtLemmas.{some_session, here_set}
@@ -19,19 +20,19 @@ returns-clause-goes c =
     record {
       session = c.remove-session.result;
       here = here;
-      left = c.carry.new.going;
+      left = c.carry.new.going.1;
       comes = c.in_ok-step.ensures.comes;
       number = c.in_ok-step.ensures.number;
       fewer = c.in_ok-step.ensures.fewer;
       new_is = c.in_ok-insert.ensures.items ∙ ap (λ (l : List Session). insert l c.args.place c.going.inside.session) c.remove-session.ensures.items
-          ∙ insert_removed olds c.args.place c.going.inside.session c.requires.within ∙ ap (λ (t : Session). slice_set olds c.args.place t) c.going.view_is;
+          ∙ insert_removed olds c.args.place c.going.inside.session c.requires.within ∙ ap (λ (g : Setting × Session). slice_set olds c.args.place g.1) c.going.view_is;
     }
 
 pub returns-clause-kept : goal.returns-clause-kept
 returns-clause-kept c s there =
     let olds = c.args.sessions.now.items in
-    let left = c.carry.new.going in
+    let left = c.carry.new.going.1 in
     let new_is : c.insert.new.self.items ≡ slice_set olds c.args.place left = c.in_ok-insert.ensures.items ∙ ap (λ (l : List Session). insert l c.args.place c.going.inside.session) c.remove-session.ensures.items
-    ∙ insert_removed olds c.args.place c.going.inside.session c.requires.within ∙ ap (λ (t : Session). slice_set olds c.args.place t) c.going.view_is in
+    ∙ insert_removed olds c.args.place c.going.inside.session c.requires.within ∙ ap (λ (g : Setting × Session). slice_set olds c.args.place g.1) c.going.view_is in
     let same = some_session left s (sym (here_set olds c.args.place left c.requires.within) ∙ sym (ap (λ (l : List Session). slice_get l c.args.place) new_is) ∙ there) in
     subst IsKept same c.in_ok-step.ensures.kept

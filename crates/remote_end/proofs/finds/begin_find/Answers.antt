@@ -10,8 +10,8 @@ use Rattle.remote_end.proofs.WaitLemmas.{settled_is}
 use Rattle.remote_end.proofs.finds.begin_find.Goals as goal
 
 pub returns-then-goes_on-clause-comes : goal.returns-then-goes_on-clause-comes
-returns-then-goes_on-clause-comes c plan is =
-    let P : Session → Type 0 = λ t. FindPlan c.args.find t plan in
+returns-then-goes_on-clause-comes c setting plan is =
+    let P : Session → Type 0 = λ t. FindPlan setting c.args.find t plan in
     Looks (subst P (settled_is c.args.session.now c.requires.idle) is) refl
 
 pub returns-then-goes_on-clause-leaves : goal.returns-then-goes_on-clause-leaves
@@ -35,7 +35,7 @@ returns-then-goes_on-clause-leaves c =
     }
 
 pub returns-in-Ok-clause-comes : goal.returns-in-Ok-clause-comes
-returns-in-Ok-clause-comes c =
+returns-in-Ok-clause-comes c setting =
     let s = c.args.session.now in
     let rows = ap (λ (d : DocumentState). d.rows) c.document.ensures in
     let P : Rows → Type 0 = λ r. Gives c.args.find r c.in-Ok.nodes in

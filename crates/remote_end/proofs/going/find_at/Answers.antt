@@ -5,13 +5,13 @@ use Rattle.page_tree.specs.Rows.{Rows}
 use Rattle.selectors.specs.declared.fault.SelFault.{SelFault}
 use Rattle.remote_end.specs.FindSpans.{Gives, soonest}
 use Rattle.remote_end.specs.Waits.{GoesOn, HasEnded}
-use Rattle.remote_end.proofs.AdvanceMoreLemmas.{fewer_after}
+use Rattle.remote_end.proofs.PageTimers.{fewer_after}
 use Rattle.remote_end.proofs.FindLemmas.{later, soonest_within, due_then, sought_lawful}
 use Rattle.remote_end.proofs.WaitLemmas.{mid_fits}
 use Rattle.remote_end.proofs.going.find_at.Goals as goal
 
 pub advance-requires-clause-onwards : goal.advance-requires-clause-onwards
-advance-requires-clause-onwards c = let l = later c.args.find c.args.session.now c.requires.fits in let n = c.requires.next in omega (arith, l, n)
+advance-requires-clause-onwards c = let l = later c.args.setting.now c.args.find c.args.session.now c.requires.fits in let n = c.requires.next in omega (arith, l, n)
 
 pub advance-requires-clause-moment : goal.advance-requires-clause-moment
 advance-requires-clause-moment c =
@@ -45,7 +45,7 @@ returns-then-goes_on-clause-fewer c =
     let due = due_then c.args.find.until c.args.session.now.page.pending (let short = on.1 in omega (arith, n, short)) in
     let within : due.1.0.0 ≤ soonest c.args.find.until c.args.session.now.page.pending = due.3 in
     let fewer : length c.advance.new.session.page.pending < length c.args.session.now.page.pending =
-    fewer_after c.args.moment c.args.session.now.page c.args.session.now.at c.advance.new.session.page c.in_ok-advance.ensures.advanced.page due.0 due.1 due.2 (omega (arith, within, n)) in
+    fewer_after c.args.setting.now c.args.moment c.args.session.now.page c.args.session.now.at c.advance.new.session.page c.in_ok-advance.ensures.advanced.page due.0 due.1 due.2 (omega (arith, within, n)) in
     omega (arith, fewer)
 
 pub returns-in_ok-reply-clause-step : goal.returns-in_ok-reply-clause-step

@@ -21,8 +21,8 @@ returns-in-Replied-clause-runs c =
     let start = c.start_of-start.ensures.start ∙ ap (λ (t : Session). start_of (Some t) c.args.reading) same in
     let begins = c.in_ok-reply.ensures.begins in
     let w = c.begin_in.new.session in
-    let P : ℕ → Type 0 = λ m. Advanced s m begins.begun in
-    let Q : Outcome → Type 0 = λ o. RowComes (IsRow c.args.setting.now c.args.order.now begins.begun []) o w in
+    let P : ℕ → Type 0 = λ m. Advanced c.args.setting.now s m begins.begun in
+    let Q : Outcome → Type 0 = λ o. RowComes c.args.setting.now (IsRow c.args.setting.now c.args.order.now begins.begun []) o w in
     let R : Outcome → Type 0 = λ o. RowLeaves o w in
     let leaves = subst R c.in-Replied.is c.in_ok-reply.ensures.leaves in
     stays_here c.args.setting.now c.args.order.now c.args.reading olds c.args.place s here begins.begun (subst P start begins.advanced) w c.in-Replied.reply leaves.0 (subst Q c.in-Replied.is begins.comes)
@@ -47,8 +47,8 @@ returns-in-Ended-clause-runs c =
     let start = c.start_of-start.ensures.start ∙ ap (λ (t : Session). start_of (Some t) c.args.reading) same in
     let begins = c.in_ok-reply.ensures.begins in
     let w = c.begin_in.new.session in
-    let P : ℕ → Type 0 = λ m. Advanced s m begins.begun in
-    let Q : Outcome → Type 0 = λ o. RowComes (IsRow c.args.setting.now c.args.order.now begins.begun []) o w in
+    let P : ℕ → Type 0 = λ m. Advanced c.args.setting.now s m begins.begun in
+    let Q : Outcome → Type 0 = λ o. RowComes c.args.setting.now (IsRow c.args.setting.now c.args.order.now begins.begun []) o w in
     ends_here c.args.setting.now c.args.order.now c.args.reading olds c.args.place s here begins.begun (subst P start begins.advanced) w c.in-Ended.reply c.remove.new.self.items (subst Q c.in-Ended.is begins.comes) c.remove.ensures.items
 
 pub returns-in-Ended-clause-sound : goal.returns-in-Ended-clause-sound
@@ -66,10 +66,10 @@ returns-in-Waits-clause-runs c =
     let start = c.start_of-start.ensures.start ∙ ap (λ (t : Session). start_of (Some t) c.args.reading) same in
     let begins = c.in_ok-reply.ensures.begins in
     let w = c.begin_in.new.session in
-    let P : ℕ → Type 0 = λ m. Advanced s m begins.begun in
-    let Q : Outcome → Type 0 = λ o. RowComes (IsRow c.args.setting.now c.args.order.now begins.begun []) o w in
+    let P : ℕ → Type 0 = λ m. Advanced c.args.setting.now s m begins.begun in
+    let Q : Outcome → Type 0 = λ o. RowComes c.args.setting.now (IsRow c.args.setting.now c.args.order.now begins.begun []) o w in
     IfOk-weaker c.carry_at.result _ _ (λ step goes.
-    let G : ℕ → Type 0 = λ m. GoesOn (slice_set olds c.args.place w) c.args.place m c.carry_at.new.sessions.items step in
+    let G : ℕ → Type 0 = λ m. GoesOn c.args.setting.now (slice_set olds c.args.place w) c.args.place m c.carry_at.new.sessions.items step in
     waits_here c.args.setting.now c.args.order.now c.args.reading olds c.args.place s here begins.begun (subst P start begins.advanced) w c.carry_at.new.sessions.items step c.requires.within c.in_ok-reply.ensures.kept.1
     (subst Q c.in-Waits.is begins.comes) (subst G start goes)) c.carry_at.ensures.goes
 
@@ -78,4 +78,4 @@ returns-in-Waits-clause-sound c next sound =
     let olds = c.args.sessions.now.items in
     let s = c.index_mut.result.now in
     let here : slice_get olds c.args.place ≡ Some s = slice_get_read olds (length olds) c.args.place s refl c.requires.within c.index_mut.ensures.value in
-    sound_carried next olds c.carry_at.new.sessions.items c.args.place c.start_of-start.result s here c.begin_in.new.session c.in_ok-reply.ensures.kept.1 c.carry_at.result c.carry_at.ensures.goes c.carry_at.ensures.kept sound
+    sound_carried c.args.setting.now next olds c.carry_at.new.sessions.items c.args.place c.start_of-start.result s here c.begin_in.new.session c.in_ok-reply.ensures.kept.1 c.carry_at.result c.carry_at.ensures.goes c.carry_at.ensures.kept sound
