@@ -24,6 +24,3 @@ pub use matched::{Matched, Offer};
 pub use processing::process;
 pub use strategy::Strategy;
 pub use timeouts::{Timeouts, read_timeouts, timeouts_object};
-
-#[cfg(test)]
-mod tests;

@@ -1,7 +1,7 @@
-use crate::files::in_memory;
 use std::alloc::Global;
 use std::process::Abort;
 use std::test::Fail;
+use timed::in_memory;
 use wd_http::{BytesList, CallList, ListClock, MemoryFiles, MemoryLine, MemorySink, TimeList};
 use wd_json::{WdBytes, WdText};
 use webdriverd::{NoScripts, webdriverd};

@@ -1,5 +1,5 @@
 use crate::conversation::run;
-use crate::framed::repeated;
+use crate::repeated::repeated;
 use crate::status::{POST_STATUS, READY, STATU, STATUS, UNKNOWN_COMMAND, UNKNOWN_METHOD};
 use std::alloc::Global;
 use std::process::Abort;

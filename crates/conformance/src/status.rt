@@ -1,5 +1,5 @@
 use crate::conversation::{answered, run};
-use crate::framed::{framed_in_two, repeated};
+use crate::repeated::repeated;
 use std::test::Fail;
 
 /// A status request, and the response to it.
@@ -61,17 +61,6 @@ fn a_request_is_answered_however_it_is_cut(rt: HostRuntime) -> Result<(), Fail> 
             assert_eq!(rt; run.printed.len(), 0);
         }
     }
-    Ok(())
-}
-
-#[test]
-fn a_request_is_heard_at_every_cut(rt: HostRuntime) -> Result<(), Fail> {
-    for cut in 0..STATUS.len() {
-        let answers = framed_in_two(&rt, rt.alloc(), STATUS, cut)?;
-        assert_eq!(rt; answers.as_str(), "GET /status false |", "cut at {cut}");
-    }
-    let answers = framed_in_two(&rt, rt.alloc(), STATUS, STATUS.len())?;
-    assert_eq!(rt; answers.as_str(), "GET /status false |More");
     Ok(())
 }
 

@@ -1,8 +1,8 @@
 use crate::conversation::run_over;
-use crate::files::{Named, in_memory};
 use std::alloc::{AllocError, Global};
 use std::process::Abort;
 use std::test::Fail;
+use timed::{Named, in_memory};
 
 /// A request by its method, its target and its body, and the status, phrase and body of the response.
 pub type Turn = (

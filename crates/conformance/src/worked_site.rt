@@ -1,4 +1,3 @@
-use crate::files::{in_memory, told};
 use crate::turns::{
     ANY, FIND, FIRST, NO_ELEMENT, NOT_FOUND, NULL, OK, OPENED, REFERENCE, Turn, converse_over,
 };
@@ -7,7 +6,7 @@ use remote_end::Remote;
 use std::alloc::Global;
 use std::process::Abort;
 use std::test::Fail;
-use timed::{W_JSON, W_SITE};
+use timed::{W_JSON, W_SITE, in_memory};
 use wd_http::{ListClock, Request, TimeList};
 use wd_json::{WdBytes, WdText, write};
 use webdriverd::NoScripts;
@@ -118,28 +117,4 @@ fn the_worked_site_is_served(rt: HostRuntime) -> Result<(), Fail> {
     ];
     let files = [("w.site", W_SITE), ("w.json", W_JSON)];
     converse_over(&rt, alloc, &["pipe", "w.site"], &files, &turns)
-}
-
-#[test]
-fn a_site_that_is_not_there_is_a_file_fault(rt: HostRuntime) -> Result<(), Fail> {
-    let found = told(rt.alloc(), &["pipe", "none.site"], &[], None)?;
-    assert_eq!(rt; found.as_str(), "4 webdriverd: file fault\n");
-    Ok(())
-}
-
-#[test]
-fn a_parent_that_stands_further_on_is_told(rt: HostRuntime) -> Result<(), Fail> {
-    let files = [
-        (
-            "b.site",
-            r#"{"wdsite":1,"start":"http://b.test/","pages":[["http://b.test/","b.json"]]}"#,
-        ),
-        (
-            "b.json",
-            r#"{"wdpage":1,"nodes":[{"tag":"html"},{"tag":"p","up":0},{"tag":"b","up":5}]}"#,
-        ),
-    ];
-    let found = told(rt.alloc(), &["pipe", "b.site"], &files, None)?;
-    assert_eq!(rt; found.as_str(), "3 webdriverd: b.json: row 2: node\n");
-    Ok(())
 }

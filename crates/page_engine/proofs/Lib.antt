@@ -9,7 +9,6 @@ pub mod Filling
 pub mod FirstSteps
 pub mod LawfulPages
 pub mod BuiltInLaws
-pub mod ADozen
 pub mod BlankLaws
 pub mod MadeLemmas
 pub mod Turns

@@ -43,6 +43,3 @@ pub use page_def::{
 };
 pub use site::{PageList, Site};
 pub use target::Target;
-
-#[cfg(test)]
-mod tests;

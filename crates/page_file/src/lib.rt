@@ -52,6 +52,3 @@ pub use site_fault::SiteFault;
 pub use site_reader::read_site;
 pub use why::Why;
 pub use writing::effects_json;
-
-#[cfg(test)]
-mod tests;

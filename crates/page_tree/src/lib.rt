@@ -20,6 +20,3 @@ mod shown;
 pub use document::Document;
 pub use fault::TreeFault;
 pub use geometry::{PixelBox, Point};
-
-#[cfg(test)]
-mod tests;

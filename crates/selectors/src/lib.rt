@@ -36,6 +36,3 @@ pub use parsing::parse;
 pub use printing::print;
 pub use selecting::{first, select};
 pub use selector::{Combinator, Complex, Compound, JoinList, Scope, Selector, Simple, Test};
-
-#[cfg(test)]
-mod tests;

@@ -1,10 +1,10 @@
-use crate::{W_JSON, W_SITE};
+use crate::{W_JSON, W_SITE, in_memory};
 use page_file::read_site;
 use remote_end::{Evaluator, Remote, Reply, Step};
 use std::alloc::Global;
 use std::process::Abort;
 use std::test::Fail;
-use wd_http::{CallList, FileList, ListClock, MemoryFiles, Request, TimeList, VirtualClock};
+use wd_http::{ListClock, Request, TimeList, VirtualClock};
 use wd_json::{WdBytes, WdText, write};
 
 #[derive(Drop)]
@@ -12,21 +12,9 @@ pub struct NoScripts;
 
 impl Evaluator for NoScripts {}
 
-/// The files of the worked site.
-fn files(alloc: Global) -> Result<MemoryFiles, Fail> {
-    let mut list = FileList::new(alloc);
-    for (name, text) in [("w.site", W_SITE), ("w.json", W_JSON)] {
-        list.push((
-            WdText::of(alloc, name)?,
-            WdBytes::of(alloc, text.as_bytes())?,
-        ))?;
-    }
-    Ok(MemoryFiles::new(alloc, list, CallList::new(alloc)))
-}
-
 /// The remote end of the worked site, as run 1.
 fn worked(alloc: Global) -> Result<Remote, Fail> {
-    let mut files = files(alloc)?;
+    let mut files = in_memory(alloc, &[("w.site", W_SITE), ("w.json", W_JSON)], None)?;
     let site = read_site(alloc, &mut files, "w.site")?;
     Ok(Remote::new(alloc, site, WdText::of(alloc, "wdpage")?, 1)?)
 }

@@ -47,8 +47,3 @@ pub use request::{BadHead, Request};
 pub use response::response_bytes;
 pub use sink::Sink;
 pub use virtual_clock::VirtualClock;
-
-#[cfg(test)]
-mod outside_tests;
-#[cfg(test)]
-mod tests;

@@ -1,0 +1,2 @@
+pub mod LawfulDozen
+pub mod LawfulTwelve
