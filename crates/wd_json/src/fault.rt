@@ -1,10 +1,55 @@
 ghost use Rattle.std.specs.Prelude.{◌≡◌};
+ghost use Rattle.wd_json.specs.declared.fault.Fault.TheVariants.{Memory as WithoutMemory};
 ghost use Rattle.wd_json.specs.declared.fault.JsonFault.TheVariants.{Memory as OutOfMemory};
 
 use crate::memory::Memory;
 use std::alloc::{AllocError, AllocFailed};
 use std::error::Error;
 use std::fmt;
+
+/// Why a call that refuses for one reason gives nothing.
+#[derive(Clone, Copy, Debug, PartialEq, Eq)]
+pub enum Fault<R> {
+    /// It refuses, and this is why.
+    Refused(R),
+    /// There was no memory.
+    Memory,
+}
+
+impl<R: fmt::Display> fmt::Display for Fault<R> {
+    fn fmt<W: fmt::Write>(&self, f: &mut fmt::Formatter<W>) -> fmt::Result {
+        match self {
+            Fault::Refused(why) => write!(f, "{why}"),
+            Fault::Memory => write!(f, "out of memory"),
+        }
+    }
+}
+
+impl<R: fmt::Debug + fmt::Display + Drop> Error for Fault<R> {}
+
+impl<R> From<Memory> for Fault<R> {
+    ghost from_gives = { λ _ fault. fault ≡ WithoutMemory };
+
+    fn from(_error: Memory) -> Fault<R> {
+        Fault::Memory
+    }
+}
+
+impl<R> From<AllocError> for Fault<R> {
+    ghost from_gives = { λ _ fault. fault ≡ WithoutMemory };
+
+    fn from(_error: AllocError) -> Fault<R> {
+        Fault::Memory
+    }
+}
+
+impl<R, T: Drop> From<AllocFailed<T>> for Fault<R> {
+    ghost from_gives = { λ _ fault. fault ≡ WithoutMemory };
+
+    fn from(_error: AllocFailed<T>) -> Fault<R> {
+        Fault::Memory
+    }
+}
 
 /// Why a text gives no value: one variant a cause.
 #[derive(Clone, Copy, Debug, PartialEq, Eq)]

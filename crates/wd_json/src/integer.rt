@@ -1,3 +1,5 @@
+//! Whole numbers, from their numerals.
+
 ghost use Rattle.std.specs.Prelude.{◌≡◌, ◌==◌, slice_index, Some, true, false, IfSome};
 ghost use Rattle.serde_json.specs.Find.{of_integer};
 ghost use Rattle.serde_json.specs.Read.{number_of, number_from};
@@ -5,7 +7,8 @@ ghost use Rattle.wd_json.specs.Whole.{is_whole_number};
 
 use fast_float::Numeral;
 
-const MAX_WHOLE: u64 = 9_007_199_254_740_991;
+/// The largest whole number that is read, 2^53 - 1, as in ECMAScript; the least is its negative.
+pub const MAX_WHOLE: i64 = 9_007_199_254_740_991;
 
 // A numeral without sign.
 fn not_below_zero(numeral: &Numeral<'_>) -> Option<i64>
@@ -13,7 +16,7 @@ fn not_below_zero(numeral: &Numeral<'_>) -> Option<i64>
     ensures whole { IfSome result (λ n. is_whole_number (of_integer n) ≡ true) }
 {
     match numeral.to_u64() {
-        Some(n) if n <= MAX_WHOLE => Some(n as i64),
+        Some(n) if n <= MAX_WHOLE as u64 => Some(n as i64),
         _ => None,
     }
 }
@@ -24,7 +27,7 @@ fn below_zero(numeral: &Numeral<'_>) -> Option<i64>
     ensures whole { IfSome result (λ n. is_whole_number (of_integer n) ≡ true) }
 {
     match numeral.to_u64() {
-        Some(n) if 0 < n && n <= MAX_WHOLE => Some(-(n as i64)),
+        Some(n) if 0 < n && n <= MAX_WHOLE as u64 => Some(-(n as i64)),
         _ => None,
     }
 }

@@ -18,13 +18,14 @@ mod writing;
 
 pub use bytes::WdBytes;
 pub use copying::copy;
-pub use fault::JsonFault;
+pub use fault::{Fault, JsonFault};
+pub use integer::MAX_WHOLE;
 pub use list::WdList;
 pub use map::WdMap;
 pub use memory::Memory;
 pub use node::{NodeId, NodeList};
-pub use reading::read;
-pub use text::{TextList, WdText};
+pub use reading::{JsonReader, read};
+pub use text::{TextList, WdText, is_same};
 pub use value::{Json, JsonList, JsonMap};
 pub use writing::write;
 

@@ -1,3 +1,5 @@
+//! Reading: a value from its text, or why there is none.
+
 ghost use Rattle.std.specs.Prelude.{◌≡◌, true, false, IfOk, IfErr, MatchOption, MatchResult};
 ghost use Rattle.serde_json.specs.Find.{of_integer};
 ghost use Rattle.serde_json.specs.View.{view, number_view, items_view, members_view};
@@ -7,15 +9,15 @@ ghost use Rattle.serde_json.specs.Data.{array, object};
 ghost use Rattle.wd_json.specs.declared.value.Json.{Json as JsonValue};
 
 use crate::fault::JsonFault;
+use crate::integer::MAX_WHOLE;
 use crate::list::WdList;
 use crate::map::WdMap;
 use crate::text::WdText;
 use crate::tokens::of_tokens;
 use crate::value::{Json, JsonList, JsonMap};
+use json::Scratch;
 use serde_json::{Map, Number, Value};
 use std::alloc::Global;
-
-const MAX_WHOLE: i64 = 9_007_199_254_740_991;
 
 /// The value that the bytes are the text of, by `serde_json`'s own definition (RFC 8259, UTF-8, at
 /// most 127 lists and objects in one another; of members with one name the last counts).
@@ -32,15 +34,44 @@ pub fn read(alloc: Global, bytes: &[u8]) -> Result<Json, JsonFault>
     ensures only { (value : JsonValue) → ReadsAs bytes.now (data_of value) → is_whole (data_of value) ≡ true
         → MatchResult result (λ json. json ≡ value) (λ fault. fault ≡ JsonFault.Memory) }
 {
-    parse(alloc, bytes)
+    JsonReader::new(alloc).read(alloc, bytes)
 }
 
-fn parse(alloc: Global, bytes: &[u8]) -> Result<Json, JsonFault>
+/// Reads values one after another, each as `read` does. The room that reading needs, 16 KiB and as much as
+/// the longest text so far, is kept from one to the next.
+#[derive(Drop)]
+pub struct JsonReader {
+    scratch: Scratch,
+}
+
+impl JsonReader {
+    /// One that has read nothing.
+    pub fn new(alloc: Global) -> JsonReader {
+        JsonReader {
+            scratch: Scratch::new(alloc),
+        }
+    }
+
+    /// What `read` answers of these bytes, whatever was read before.
+    pub fn read(&mut self, alloc: Global, bytes: &[u8]) -> Result<Json, JsonFault>
+        ensures reads { IfOk result (λ json. ReadsAs bytes.now (data_of json)) }
+        ensures whole { IfOk result (λ json. is_whole (data_of json) ≡ true) }
+        ensures cause { IfErr result (IsCause bytes.now) }
+
+        // A value that the bytes are the text of is read, unless there is no memory.
+        ensures only { (value : JsonValue) → ReadsAs bytes.now (data_of value) → is_whole (data_of value) ≡ true
+            → MatchResult result (λ json. json ≡ value) (λ fault. fault ≡ JsonFault.Memory) }
+    {
+        parse(alloc, &mut self.scratch, bytes)
+    }
+}
+
+fn parse(alloc: Global, scratch: &mut Scratch, bytes: &[u8]) -> Result<Json, JsonFault>
     ensures reads { IfOk result (λ json. ReadsAs bytes.now (data_of json)) }
     ensures whole { IfOk result (λ json. is_whole (data_of json) ≡ true) }
     ensures cause { IfErr result (IsCause bytes.now) }
 {
-    match of_tokens(alloc, bytes) {
+    match of_tokens(alloc, scratch, bytes) {
         Some(json) => Ok(json),
         None => judged(alloc, bytes),
     }

@@ -1,5 +1,5 @@
 ghost use Rattle.std.specs.Prelude.{◌≡◌, [], ◌∷◌, ◌++◌, ◌<◌, Some, true, length, slice_get, IfOk, OnOk, OnErr};
-ghost use Rattle.std.specs.Str.{all_scalars, chars, encode_utf8_all, IsAscii};
+ghost use Rattle.std.specs.Str.{all_scalars, bytes_eq, chars, encode_utf8_all, IsAscii};
 
 use crate::list::WdList;
 use crate::memory::Memory;
@@ -77,6 +77,22 @@ impl WdText {
         self.text.chars().nth(i).unwrap()
     }
 
+    /// Whether it is that text.
+    pub fn is(&self, text: &str) -> bool
+        ensures { result ≡ bytes_eq self.now (chars text.now) }
+    {
+        is_same(self.text.as_str(), text)
+    }
+
+    /// Adds a text at the end. After `Memory` this text is as it was.
+    pub fn extend(&mut self, text: &str) -> Result<(), Memory>
+        ensures ok { OnOk result (self.new ≡ self.old ++ chars text.now) }
+        ensures err { OnErr result (self.new ≡ self.old) }
+    {
+        self.text.push_str(text)?;
+        Ok(())
+    }
+
     /// Adds a character at the end. After `Memory` the text is as it was.
     pub fn push(&mut self, character: char) -> Result<(), Memory>
         ensures ok { OnOk result (self.new ≡ self.old ++ character ∷ []) }
@@ -85,6 +101,14 @@ impl WdText {
         self.text.push(character)?;
         Ok(())
     }
+}
+
+/// Whether the two texts have the same characters.
+pub fn is_same(text: &str, other: &str) -> bool
+    ensures characters { result ≡ bytes_eq (chars text.now) (chars other.now) }
+    ensures ascii { IsAscii other.now → result ≡ bytes_eq (chars text.now) other.now }
+{
+    text == other
 }
 
 /// Texts in order.

@@ -1,3 +1,5 @@
+//! A value made token by token.
+
 ghost use Rattle.std.specs.Prelude.{◌≡◌, ◌<◌, Some, length, true, IfSome, OnSome};
 ghost use Rattle.json.specs.Json.{value, items, members};
 ghost use Rattle.serde_json.specs.Data.{no_members};
@@ -21,13 +23,12 @@ const MOST_MEMBERS: usize = 64;
 
 /// The value that the bytes are the text of, made token by token, where its numbers are whole and
 /// no object has many members. `None` says nothing of the bytes.
-pub fn of_tokens(alloc: Global, bytes: &[u8]) -> Option<Json>
+pub fn of_tokens(alloc: Global, scratch: &mut Scratch, bytes: &[u8]) -> Option<Json>
     ensures reads { IfSome result (λ json. ReadsAs bytes.now (data_of json)) }
     ensures whole { IfSome result (λ json. is_whole (data_of json) ≡ true) }
 {
     let text = str::from_utf8(bytes).ok()?;
-    let mut scratch = Scratch::new(alloc);
-    let mut reader = Reader::new(text, &mut scratch).ok()?;
+    let mut reader = Reader::new(text, scratch).ok()?;
     let json = value(alloc, &mut reader, MAX_DEPTH)?;
     if reader.next().is_some() {
         return None;
