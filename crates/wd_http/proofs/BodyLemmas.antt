@@ -8,7 +8,7 @@ use Rattle.wd_http.specs.Heads.{IsHead, headers_of}
 use Rattle.wd_http.specs.Headers.{body_length}
 use Rattle.wd_http.specs.HeadIs.{HeadIs}
 use Rattle.wd_http.specs.Known.{IsKnown, HeadIsKnown}
-use Rattle.wd_http.specs.Seen.{IsSeen}
+use Rattle.wd_http.specs.SearchedHead.{IsSeen}
 use Rattle.wd_http.specs.Stream.{BadIs}
 use Rattle.wd_http.specs.Marks.{block_end}
 use Rattle.wd_http.specs.declared.mark.Mark.{Mark}

@@ -3,11 +3,11 @@ use Rattle.std.proofs.Common.{◌≡◌, ◌++◌, ◌∙◌, List, [], ◌∷�
 use Rattle.std.proofs.lemmas.List.{append-nil}
 use Rattle.std.proofs.Math.Seq.{set-append_seam, get_or-append_seam}
 use Rattle.wd_http.specs.Talk.{Connection, is_full, sent_on}
-use Rattle.wd_http.specs.Held.{Held, whole}
-use Rattle.wd_http.specs.Kept.{Kept, last_sent}
+use Rattle.wd_http.specs.HeldConnection.{HeldConnection, whole}
+use Rattle.wd_http.specs.KeptConnections.{Kept, last_sent}
 
 -- whatever comes behind the list, those that are over sent the same
-pub over_is : (before : List Connection) (over : List Held) (place : Option ℕ) (sents : List (List ℕ)) (more : List (List ℕ)) → Kept before over place sents → map (whole (sents ++ more)) over ≡ before
+pub over_is : (before : List Connection) (over : List HeldConnection) (place : Option ℕ) (sents : List (List ℕ)) (more : List (List ℕ)) → Kept before over place sents → map (whole (sents ++ more)) over ≡ before
 over_is before over place sents more k =
     ap (λ (s : List (List ℕ)). map (whole s) over) (ap (λ (s : List (List ℕ)). s ++ more) k.parts ∙ append_assoc (sent_on before) (last_sent sents place) more) ∙ k.stays (last_sent sents place ++ more)
 
@@ -16,7 +16,7 @@ is_full-append [] b h = let e : false ≡ true = h in cc
 is_full-append (x ∷ a) b h = h
 
 -- further bytes are sent on it
-pub kept_more : (before : List Connection) (over : List Held) (i : ℕ) (sents : List (List ℕ)) (more : List ℕ) → Kept before over (Some i) sents → Kept before over (Some i) (slice_set sents i (slice_index_or sents i [] ++ more))
+pub kept_more : (before : List Connection) (over : List HeldConnection) (i : ℕ) (sents : List (List ℕ)) (more : List ℕ) → Kept before over (Some i) sents → Kept before over (Some i) (slice_set sents i (slice_index_or sents i [] ++ more))
 kept_more before over i sents more k =
     let last : List ℕ = slice_index_or sents i [] in
     let front : List (List ℕ) = sent_on before in
@@ -31,12 +31,19 @@ kept_more before over i sents more k =
     }
 
 -- those that are over sent what stands in the list
-kept_as_listed : (before : List Connection) (over : List Held) (place : Option ℕ) (sents : List (List ℕ)) → Kept before over place sents → Kept (map (whole sents) over) over place sents
+kept_as_listed : (before : List Connection) (over : List HeldConnection) (place : Option ℕ) (sents : List (List ℕ)) → Kept before over place sents → Kept (map (whole sents) over) over place sents
 kept_as_listed before over place sents k =
     let e : map (whole sents) over ≡ before = ap (λ (s : List (List ℕ)). map (whole s) over) (sym (append-nil sents)) ∙ over_is before over place sents [] k in
     subst (λ (b : List Connection). Kept b over place sents) (sym e) k
 
-pub kept_grown : (over : List Held) (place : Option ℕ) (i : ℕ) (sents new : List (List ℕ)) (more : List ℕ) → place ≡ Some i → new ≡ slice_set sents i (slice_index_or sents i [] ++ more)
+pub kept_grown : (over : List HeldConnection) (place : Option ℕ) (i : ℕ) (sents new : List (List ℕ)) (more : List ℕ) → place ≡ Some i → new ≡ slice_set sents i (slice_index_or sents i [] ++ more)
     → Kept (map (whole sents) over) over place sents → Kept (map (whole new) over) over place new
 kept_grown over place i sents new more p n k =
     rw (p, n) (kept_as_listed _ over (Some i) _ (kept_more (map (whole sents) over) over i sents more (subst (λ (q : Option ℕ). Kept (map (whole sents) over) over q sents) p k)))
+
+-- and those that are over sent the same
+pub past_grown : (over : List HeldConnection) (place : Option ℕ) (i : ℕ) (sents new : List (List ℕ)) (more : List ℕ) → place ≡ Some i → new ≡ slice_set sents i (slice_index_or sents i [] ++ more)
+    → Kept (map (whole sents) over) over place sents → map (whole new) over ≡ map (whole sents) over
+past_grown over place i sents new more p n k =
+    let longer = kept_more (map (whole sents) over) over i sents more (subst (λ (q : Option ℕ). Kept (map (whole sents) over) over q sents) p k) in
+    rw n (ap (λ (s : List (List ℕ)). map (whole s) over) (sym (append-nil _)) ∙ over_is (map (whole sents) over) over (Some i) _ [] longer)

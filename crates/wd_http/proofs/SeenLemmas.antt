@@ -4,7 +4,7 @@ use Rattle.std.proofs.lemmas.List.{take_min}
 use Rattle.std.proofs.Math.Seq.{take-add}
 use Rattle.wd_http.specs.Frames.{head_limit}
 use Rattle.wd_http.specs.Marks.{block_end, mark_after}
-use Rattle.wd_http.specs.Seen.{IsSeen}
+use Rattle.wd_http.specs.SearchedHead.{IsSeen}
 use Rattle.wd_http.specs.declared.mark.Mark.{Mark}
 use Rattle.wd_http.specs.declared.mark.Mark.TheVariants.{Blank}
 use Rattle.wd_http.proofs.BlockLemmas.{add_to, block_append, is_block}

@@ -1,5 +1,5 @@
 -- Calls that are numbered from 1, some of which fail.
-use Rattle.std.specs.Prelude.{◌≡◌, ◌↔◌, ◌<◌, ◌≤◌, ◌+◌, ◌-◌, ◌^◌, ℕ, Bool, true, false, List, min, IsTrue, Contains}
+use Rattle.std.specs.Prelude.{◌≡◌, ◌↔◌, ◌<◌, ◌+◌, ◌-◌, ◌^◌, ℕ, Bool, true, false, List, min, IsTrue, Contains}
 
 -- the numbers of those that fail, how many were made, and how many faults there were
 pub record Calls : Type 0 where

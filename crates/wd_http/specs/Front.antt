@@ -1,7 +1,7 @@
 -- What is found in front of unread bytes, with what is kept for the next look.
 use Rattle.std.specs.Prelude.{◌≤◌, ◌<◌, ℕ, List, take, length}
 use Rattle.wd_http.specs.Frames.{Spelling, BadFront, IsOpen, most_unread}
-use Rattle.wd_http.specs.Seen.{IsSeen}
+use Rattle.wd_http.specs.SearchedHead.{IsSeen}
 use Rattle.wd_http.specs.Known.{IsKnown}
 use Rattle.wd_http.specs.declared.front.Front.{Front}
 use Rattle.wd_http.specs.declared.front.Front.TheVariants.{Whole, Body, More, Bad}

@@ -1,6 +1,5 @@
-ghost use Rattle.std.specs.Prelude.{◌≡◌, ◌++◌, ◌∷◌, ◌<◌, [], Some, OnOk, OnErr, length, map, slice_get};
-ghost use Rattle.wd_http.specs.Held.{comes_on};
-ghost use Rattle.wd_http.specs.Grown.{GrownAt};
+ghost use Rattle.std.specs.Prelude.{◌≡◌, ◌++◌, ◌∷◌, ◌<◌, [], Some, OnOk, OnErr, length, map, slice_get, slice_set, slice_index_or};
+ghost use Rattle.wd_http.specs.HeldConnection.{comes_on};
 
 use crate::entry::Entry;
 use std::alloc::Global;
@@ -17,7 +16,7 @@ pub struct BytesList {
 
 impl Model for BytesList {
     ghost use Rattle.std.specs.Prelude.{List, ℕ, map};
-    ghost use Rattle.wd_http.specs.Held.{comes_on};
+    ghost use Rattle.wd_http.specs.HeldConnection.{comes_on};
 
     ghost Value = { List (List ℕ) };
 
@@ -59,10 +58,11 @@ impl BytesList {
         Ok(())
     }
 
-    /// Adds to the bytes at place `i`. After `Memory` some may have been added.
+    /// Adds to the bytes at place `i`. After `Memory` they are as they were.
     pub(crate) fn extend(&mut self, i: usize, piece: &[u8]) -> Result<(), Memory>
         requires { i < length self.old }
-        ensures { GrownAt i self.old self.new piece.now result }
+        ensures ok { OnOk result (self.new ≡ slice_set self.old i (slice_index_or self.old i [] ++ piece.now)) }
+        ensures err { OnErr result (self.new ≡ self.old) }
     {
         let entry = &mut self.entries[i];
         entry.extend(piece)

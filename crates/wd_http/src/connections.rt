@@ -2,7 +2,6 @@ ghost use Rattle.std.specs.Prelude.{◌≡◌, ◌<◌, ◌++◌, [], false, Ok,
 ghost use Rattle.wd_http.specs.Talk.{Talk, Elsewhere, Took, Sends, Fails, GoesOn, HangsUp, fresh, given, sent_on};
 ghost use Rattle.wd_http.specs.Least.{least};
 
-use crate::append::append;
 use crate::bytes_list::BytesList;
 use crate::call::Call;
 use crate::entry::Entry;
@@ -26,8 +25,8 @@ pub(crate) struct Connections {
 impl Model for Connections {
     ghost use Rattle.std.specs.Prelude.{◌≤◌, take, drop, length, map, if◌then◌else◌};
     ghost use Rattle.wd_http.specs.Talk.{Talk};
-    ghost use Rattle.wd_http.specs.Held.{comes_on, next_of, whole, with_stray};
-    ghost use Rattle.wd_http.specs.Kept.{AreKept};
+    ghost use Rattle.wd_http.specs.HeldConnection.{comes_on, next_of, whole, with_stray};
+    ghost use Rattle.wd_http.specs.KeptConnections.{AreKept};
 
     ghost Value = { Talk };
 
@@ -97,19 +96,20 @@ impl Connections {
         self.here.read(into, most)
     }
 
-    /// Sends a piece. After `Memory` a part of it may have been sent.
+    /// Sends a piece; after `Memory` nothing of it.
     pub(crate) fn send(&mut self, piece: &[u8]) -> Result<(), Memory>
         ensures elsewhere { OnOk result (Elsewhere self.old self.new) }
         ensures sends { OnOk result (Sends self.old.here self.new.here piece.now) }
     {
         if !self.is_open {
-            return append(&mut self.stray, piece);
+            return self.stray.extend(piece);
         }
         if piece.is_empty() {
             return Ok(());
         }
         if let Some(place) = self.here.place() {
-            return self.sent.extend(place, piece);
+            self.sent.extend(place, piece)?;
+            return Ok(());
         }
         let place = self.sent.len();
         self.sent.push(WdBytes::of(self.alloc, piece)?)?;

@@ -1,9 +1,7 @@
-ghost use Rattle.std.specs.Prelude.{◌≡◌, ◌++◌, ◌∷◌, [], List, ℕ, Some, None, OnOk, length, take};
-ghost use Rattle.wd_http.specs.Held.{Held, comes_on, untouched};
+ghost use Rattle.std.specs.Prelude.{◌≡◌, ◌++◌, ◌∷◌, [], List, ℕ, Some, None, OnOk, OnErr, length, take};
+ghost use Rattle.wd_http.specs.HeldConnection.{HeldConnection, comes_on, untouched};
 ghost use Rattle.wd_http.specs.Least.{least};
-ghost use Rattle.wd_http.specs.Grown.{GrownBy};
 
-use crate::append::append;
 use crate::call::Call;
 use std::marker::Model;
 use wd_json::{Memory, WdBytes};
@@ -19,9 +17,9 @@ pub(crate) struct Entry {
 
 impl Model for Entry {
     ghost use Rattle.std.specs.Prelude.{◌≤◌, take, drop, length};
-    ghost use Rattle.wd_http.specs.Held.{Held};
+    ghost use Rattle.wd_http.specs.HeldConnection.{HeldConnection};
 
-    ghost Value = { Held };
+    ghost Value = { HeldConnection };
 
     ghost view = { λ e. record { took = take e.at e.bytes; left = drop e.at e.bytes; place = e.place; failed = e.failed } };
 
@@ -91,10 +89,11 @@ impl Entry {
         self.failed = Some(call);
     }
 
-    /// Adds to the bytes that come on it. After `Memory` some may have been added.
+    /// Adds to the bytes that come on it. After `Memory` they are as they were.
     pub(crate) fn extend(&mut self, piece: &[u8]) -> Result<(), Memory>
-        ensures { GrownBy (comes_on self.old) (comes_on self.new) piece.now result }
+        ensures ok { OnOk result (comes_on self.new ≡ comes_on self.old ++ piece.now) }
+        ensures err { OnErr result (comes_on self.new ≡ comes_on self.old) }
     {
-        append(&mut self.bytes, piece)
+        self.bytes.extend(piece)
     }
 }

@@ -39,7 +39,7 @@ pub struct Framer {
 impl Model for Framer {
     ghost use Rattle.std.specs.Prelude.{◌≡◌, ◌≤◌, drop, vec_len};
     ghost use Rattle.wd_http.specs.Stream.{Stream, BadIs};
-    ghost use Rattle.wd_http.specs.Seen.{IsSeen};
+    ghost use Rattle.wd_http.specs.SearchedHead.{IsSeen};
     ghost use Rattle.wd_http.specs.Known.{HeadIsKnown};
 
     ghost Value = { Stream };

@@ -2,7 +2,7 @@
 ghost use Rattle.std.specs.Prelude.{IfOk, IfSome};
 ghost use Rattle.wd_http.specs.declared.front.Front.TheVariants.{More};
 ghost use Rattle.wd_http.specs.Front.{FrontIs};
-ghost use Rattle.wd_http.specs.Seen.{IsSeen, BlockFound};
+ghost use Rattle.wd_http.specs.SearchedHead.{IsSeen, BlockFound};
 ghost use Rattle.wd_http.specs.Known.{IsKnown, HeadIsKnown};
 
 use crate::head::{Head, head_of};

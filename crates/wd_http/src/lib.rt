@@ -3,7 +3,6 @@
 //! lines of connections, sinks, clocks), each with a form in memory.
 #![tactic(auto)]
 
-mod append;
 mod bytes_list;
 mod call;
 mod call_count;

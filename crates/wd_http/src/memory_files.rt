@@ -2,7 +2,7 @@ ghost use Rattle.std.specs.Prelude.{◌≡◌, ◌≤◌, true, IfOk, length};
 ghost use Rattle.std.specs.Option.{option_copied};
 ghost use Rattle.wd_http.specs.Causes.{HasReadCause, HasWriteCause};
 ghost use Rattle.wd_http.specs.Files.{IsOneMore, file_at, ReadsFile, Takes, WritesFile};
-ghost use Rattle.wd_http.specs.Filed.{filed_of, ReadsCounted, WritesCounted};
+ghost use Rattle.wd_http.specs.FilesState.{filed_of, ReadsCounted, WritesCounted};
 
 use crate::call_count::CallCount;
 use crate::fault::{FileFault, WriteFault};
@@ -24,9 +24,9 @@ pub struct MemoryFiles {
 }
 
 impl Model for MemoryFiles {
-    ghost use Rattle.wd_http.specs.Filed.{Filed};
+    ghost use Rattle.wd_http.specs.FilesState.{FilesState};
 
-    ghost Value = { Filed };
+    ghost Value = { FilesState };
 
     ghost view = { λ m. record { files = m.files; calls = m.calls; took = m.took } };
 }

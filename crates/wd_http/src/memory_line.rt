@@ -1,7 +1,7 @@
 ghost use Rattle.std.specs.Prelude.{◌≡◌, ◌≤◌, ◌<◌, [], true, IfOk, length};
 ghost use Rattle.wd_http.specs.Causes.{HasCause, HasWriteCause};
 ghost use Rattle.wd_http.specs.Talk.{GoesOn, Reads, Writes, HangsUp, given, sent_on};
-ghost use Rattle.wd_http.specs.Told.{told_of, Refuses, ReadsLeast, WritesLeast};
+ghost use Rattle.wd_http.specs.LineState.{told_of, Refuses, ReadsLeast, WritesLeast};
 
 use crate::bytes_list::BytesList;
 use crate::call::Call;
@@ -26,9 +26,9 @@ pub struct MemoryLine {
 
 impl Model for MemoryLine {
     ghost use Rattle.std.specs.Prelude.{◌<◌, ◌≤◌};
-    ghost use Rattle.wd_http.specs.Told.{Told};
+    ghost use Rattle.wd_http.specs.LineState.{LineState};
 
-    ghost Value = { Told };
+    ghost Value = { LineState };
 
     ghost view = { λ m. record { talk = m.connections; calls = m.calls; most = m.most; refusals = m.refusals } };
 

@@ -1,9 +1,8 @@
 ghost use Rattle.std.specs.Prelude.{◌≡◌, ◌≤◌, ◌<◌, List, ℕ, [], true, IsTrue, IfOk, length};
 ghost use Rattle.wd_http.specs.Causes.{HasWriteCause};
 ghost use Rattle.wd_http.specs.Written.{TakesBytes};
-ghost use Rattle.wd_http.specs.Sunk.{Sunk, sunk_of, TakesLeast};
+ghost use Rattle.wd_http.specs.SinkState.{SinkState, sunk_of, TakesLeast};
 
-use crate::append::append;
 use crate::call_count::CallCount;
 use crate::fault::WriteFault;
 use crate::lists::CallList;
@@ -23,9 +22,9 @@ pub struct MemorySink {
 
 impl Model for MemorySink {
     ghost use Rattle.std.specs.Prelude.{◌<◌};
-    ghost use Rattle.wd_http.specs.Sunk.{Sunk};
+    ghost use Rattle.wd_http.specs.SinkState.{SinkState};
 
-    ghost Value = { Sunk };
+    ghost Value = { SinkState };
 
     ghost view = { λ m. record { written = m.bytes; calls = m.calls; most = m.most } };
 
@@ -74,7 +73,7 @@ impl Sink for MemorySink {
             return Err(WriteFault::Failed);
         }
         let taken = bytes.len().min(self.most);
-        append(&mut self.bytes, &bytes[..taken])?;
+        self.bytes.extend(&bytes[..taken])?;
         Ok(taken)
     }
 }

@@ -1,6 +1,6 @@
 use Rattle.std.proofs.Common.{arith, ◌≡◌, ◌++◌, ◌∙◌, drop, sym, subst, List, ℕ, ap, length, ◌≤◌}
 use Rattle.std.proofs.lemmas.List.{drop-append-le}
-use Rattle.wd_http.specs.Seen.{IsSeen}
+use Rattle.wd_http.specs.SearchedHead.{IsSeen}
 use Rattle.wd_http.specs.Stream.{BadIs}
 use Rattle.wd_http.specs.Known.{HeadIsKnown}
 use Rattle.wd_http.proofs.BodyLemmas.{known_more, seen_more, bad_more}

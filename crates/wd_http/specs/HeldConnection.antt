@@ -5,18 +5,18 @@ use Rattle.wd_http.specs.declared.call.Call.{Call}
 
 -- a connection: the bytes that reads took and those left to come, where the bytes that writes took stand
 -- in the list of what was sent, if a write took one, and the call that failed, if one did
-pub record Held : Type 0 where
+pub record HeldConnection : Type 0 where
   pub took : List ℕ
   pub left : List ℕ
   pub place : Option ℕ
   pub failed : Option Call
 
 -- all bytes that come on it
-abbrev pub comes_on : Held → List ℕ
+abbrev pub comes_on : HeldConnection → List ℕ
 comes_on held = held.took ++ held.left
 
 -- one on which these bytes come, before the first call
-abbrev pub untouched : List ℕ → Held
+abbrev pub untouched : List ℕ → HeldConnection
 untouched bytes = record { took = []; left = bytes; place = None; failed = None }
 
 -- the bytes at that place of the list of what was sent, if there is one
@@ -25,11 +25,11 @@ sent_at sents None = []
 sent_at sents (Some i) = slice_index_or sents i []
 
 -- the connection, with what was sent on it
-abbrev pub whole : List (List ℕ) → Held → Connection
+abbrev pub whole : List (List ℕ) → HeldConnection → Connection
 whole sents held = record { took = held.took; left = held.left; sent = sent_at sents held.place; failed = held.failed }
 
 -- where none stands, what is sent goes astray
-abbrev pub with_stray : Bool → List (List ℕ) → List ℕ → Held → Connection
+abbrev pub with_stray : Bool → List (List ℕ) → List ℕ → HeldConnection → Connection
 with_stray is_open sents stray held = record {
   took = held.took;
   left = held.left;

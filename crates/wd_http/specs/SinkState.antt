@@ -5,17 +5,17 @@ use Rattle.wd_http.specs.declared.fault.WriteFault.{WriteFault}
 use Rattle.wd_http.specs.declared.fault.WriteFault.TheVariants.{Failed, Memory}
 
 -- the bytes that it took, its calls, and how many bytes a write takes at most
-pub record Sunk : Type 0 where
+pub record SinkState : Type 0 where
   pub written : List ℕ
   pub calls : Calls
   pub most : ℕ
 
 -- before the first call
-abbrev pub sunk_of : List ℕ → ℕ → Sunk
+abbrev pub sunk_of : List ℕ → ℕ → SinkState
 sunk_of fails most = record { written = []; calls = first_calls fails; most = most }
 
 -- A write takes the least of that number and its piece, and fails exactly where its number says so.
-abbrev pub TakesLeast : Sunk → Sunk → List ℕ → Result ℕ WriteFault → Type 0
+abbrev pub TakesLeast : SinkState → SinkState → List ℕ → Result ℕ WriteFault → Type 0
 TakesLeast old new bytes (Ok n) = IsCalled old.calls new.calls false × (new.most ≡ old.most) × (n ≡ min old.most (length bytes))
 TakesLeast old new bytes (Err Failed) = IsCalled old.calls new.calls true × (new.most ≡ old.most)
 TakesLeast old new bytes (Err Memory) = IsCalled old.calls new.calls false × (new.most ≡ old.most)
