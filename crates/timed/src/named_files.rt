@@ -1,6 +1,6 @@
 ghost use Rattle.std.specs.Prelude.{◌≡◌, map, IfOk};
 ghost use Rattle.std.specs.Str.{chars};
-ghost use Rattle.wd_http.specs.Filed.{filed_of};
+ghost use Rattle.wd_http.specs.FilesState.{filed_of};
 ghost use Rattle.timed.specs.NamedFiles.{number_in};
 
 use std::alloc::Global;
