@@ -1,3 +1,5 @@
+//! The command of a request by going over the table row by row, to be timed against the router.
+
 use endpoints::{COMMANDS, Command, method_of, pattern_of};
 
 /// The first command of the table whose method and pattern the request has.

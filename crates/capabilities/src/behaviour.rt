@@ -1,3 +1,5 @@
+//! What is done with an open user prompt, and the texts by which a capability names it.
+
 ghost use Rattle.std.specs.Prelude.{◌≡◌};
 ghost use Rattle.capabilities.specs.Behaviour.{behaviour_text, behaviour_with, behaviour_of};
 

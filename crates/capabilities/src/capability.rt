@@ -1,3 +1,5 @@
+//! The capabilities that this end knows, with their names.
+
 ghost use Rattle.std.specs.Prelude.{◌≡◌};
 ghost use Rattle.capabilities.specs.Table.{row_of, capability_with};
 

@@ -1,3 +1,5 @@
+//! The object of capabilities that New Session answers.
+
 ghost use Rattle.std.specs.Prelude.{◌≡◌, true, IfOk};
 ghost use Rattle.std.specs.Str.{IsAscii};
 ghost use Rattle.wd_json.specs.Json.{data_of};

@@ -1,3 +1,5 @@
+//! Why a request gives no session.
+
 ghost use Rattle.std.specs.Prelude.{◌≡◌};
 ghost use Rattle.capabilities.specs.declared.fault.CapFault.TheVariants.{Memory as OutOfMemory};
 

@@ -1,3 +1,5 @@
+//! The form of `capabilities`, `alwaysMatch` and `firstMatch`: objects, and lists of them.
+
 ghost use Rattle.std.specs.Prelude.{◌≡◌, map, [], ◌∷◌};
 ghost use Rattle.std.specs.List.{list_all};
 ghost use Rattle.std.specs.Option.{option_map};

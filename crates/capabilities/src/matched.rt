@@ -1,3 +1,5 @@
+//! What this end offers, and what a session was asked for.
+
 use crate::behaviour::Behaviour;
 use crate::strategy::Strategy;
 use crate::timeouts::Timeouts;

@@ -1,3 +1,5 @@
+//! What is wrong, doubled or matched in the members of an object, null ones aside.
+
 ghost use Rattle.std.specs.Prelude.{◌≡◌};
 ghost use Rattle.std.specs.List.{list_all};
 ghost use Rattle.std.specs.Option.{option_copied};

@@ -1,3 +1,5 @@
+//! What a merge of `alwaysMatch` and one first match asks for, with defaults for the rest.
+
 ghost use Rattle.std.specs.Prelude.{◌≡◌, IfOk, [], false, unwrap_or};
 ghost use Rattle.std.specs.Option.{option_copied};
 ghost use Rattle.capabilities.specs.Values.{value_of, bool_of};

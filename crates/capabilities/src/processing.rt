@@ -1,3 +1,5 @@
+//! The first match of capabilities, or why there is none: all are validated before any is merged.
+
 ghost use Rattle.std.specs.Prelude.{◌≡◌, Ok, true, map, IfOk, IfErr};
 ghost use Rattle.std.specs.List.{find, list_all};
 ghost use Rattle.std.specs.Option.{option_copied};

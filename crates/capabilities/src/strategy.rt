@@ -1,3 +1,5 @@
+//! Which moment of a page's loading a navigation waits for, and how a capability names it.
+
 ghost use Rattle.std.specs.Prelude.{◌≡◌};
 ghost use Rattle.capabilities.specs.Strategy.{strategy_text, strategy_with, strategy_of};
 

@@ -1,3 +1,5 @@
+//! Of each capability: which values are valid, and which of them this end matches.
+
 ghost use Rattle.std.specs.Prelude.{◌≡◌};
 ghost use Rattle.capabilities.specs.Values.{text_passes};
 ghost use Rattle.capabilities.specs.Table.{row_of, is_this, is_proxy_type as names_proxy, has_proxy_type as fits_proxy, is_proxy as proxy_value, has_colon as colon_stands_in, is_valid as valid_member, is_match as matching_member};

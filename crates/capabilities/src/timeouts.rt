@@ -1,3 +1,5 @@
+//! The three timeouts of a session, read from an object and written as one.
+
 ghost use Rattle.std.specs.Prelude.{◌≡◌, ◌<◌, ◌^◌, pos, true, IfOk};
 ghost use Rattle.std.specs.Option.{ok_or};
 ghost use Rattle.std.specs.Str.{IsAscii};
@@ -9,7 +11,7 @@ ghost use Rattle.capabilities.specs.Timeouts.{AreInRange, span_of as span_value,
 use crate::values::{Member, as_object, find_value};
 use std::alloc::Global;
 use wd_errors::Code;
-use wd_json::{Json, JsonMap, Memory, WdText};
+use wd_json::{Json, JsonMap, MAX_WHOLE, Memory, WdText};
 
 /// A session's timeouts in milliseconds (W3C WebDriver, section 8.5).
 #[derive(Clone, Copy, Debug, PartialEq, Eq)]
@@ -29,14 +31,12 @@ pub const DEFAULT: Timeouts = Timeouts {
     implicit: 0,
 };
 
-const MAX_SPAN: i64 = 9_007_199_254_740_991;
-
 // A whole number of 0 to 2^53 - 1.
 fn as_span(value: &Json) -> Option<u64>
     ensures { result ≡ span_value value.now }
 {
     match value {
-        Json::Int(n) if 0 <= *n && *n <= MAX_SPAN => Some(*n as u64),
+        Json::Int(n) if 0 <= *n && *n <= MAX_WHOLE => Some(*n as u64),
         _ => None,
     }
 }

@@ -1,3 +1,5 @@
+//! JSON values looked at as flags, texts, lists and objects, and the members of an object.
+
 ghost use Rattle.std.specs.Prelude.{◌≡◌};
 ghost use Rattle.std.specs.Option.{option_copied, option_map};
 ghost use Rattle.capabilities.specs.Values.{is_null as null_value, bool_of, text_of, list_of, object_of, is_object as object_value, members_of, value_of};

@@ -1,3 +1,5 @@
+//! Runs of the server over one connection in memory, and what each left.
+
 use std::alloc::Global;
 use std::process::Abort;
 use std::test::Fail;

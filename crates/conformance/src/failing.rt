@@ -1,3 +1,5 @@
+//! Each call of the line failing in turn under `pipe`, and what was sent before: as tests.
+
 use crate::conversation::run;
 use crate::repeated::repeated;
 use crate::status::{POST_STATUS, READY, STATU, STATUS, UNKNOWN_COMMAND, UNKNOWN_METHOD};

@@ -1,3 +1,5 @@
+//! Conversations in which elements, lists, links and shadow roots are found, as tests.
+
 use crate::turns::{
     ANY, BAD, FAILED, FIND, INVALID, NO_ELEMENT, NOT_FOUND, OK, OPENED, REFERENCE, Turn,
     UNSUPPORTED, converse, converse_over,

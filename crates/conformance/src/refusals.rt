@@ -1,3 +1,5 @@
+//! Commands that aren't built, and parameters that are refused, in the order of the checks: as tests.
+
 use crate::conversation::run;
 use crate::turns::{
     ANY, BAD, FAILED, FIND, FIRST, INVALID, OK, OPENED, REFERENCE, Turn, UNSUPPORTED, converse,

@@ -1,3 +1,5 @@
+//! The real adapters over readers, writers and files that refuse each call, as tests.
+
 ghost use Rattle.std.specs.Prelude.{None};
 
 use std::alloc::Global;

@@ -1,3 +1,5 @@
+//! Bytes in which one part stands many times.
+
 use std::alloc::{AllocError, Global};
 
 /// A part that stands several times, with what stands before it and what follows.

@@ -1,3 +1,5 @@
+//! Conversations that open, use and end sessions, up to the limit of sessions: as tests.
+
 use crate::conversation::run;
 use crate::turns::{
     ANY, BAD, FAILED, FIND, FIRST, INVALID, NO_ELEMENT, NO_SESSION, NOT_FOUND, NULL, OK, OPENED,

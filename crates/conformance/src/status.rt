@@ -1,3 +1,5 @@
+//! Status requests however they are cut, bodies and closings, and the words of `pipe`: as tests.
+
 use crate::conversation::{answered, run};
 use crate::repeated::repeated;
 use std::test::Fail;

@@ -1,3 +1,5 @@
+//! Files of the system written, and read to their limits, as a test.
+
 use std::alloc::Global;
 use std::fs;
 use std::process::Abort;

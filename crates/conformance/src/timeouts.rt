@@ -1,3 +1,5 @@
+//! A conversation that reads and sets timeouts, all at once or not at all: as a test.
+
 use crate::turns::{
     ANY, BAD, FIRST, INVALID, NO_SESSION, NOT_FOUND, NULL, OK, OPENED, Turn, converse,
 };

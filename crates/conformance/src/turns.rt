@@ -1,3 +1,5 @@
+//! Conversations as rows of requests and responses, and the texts that they share.
+
 use crate::conversation::run_over;
 use std::alloc::{AllocError, Global};
 use std::process::Abort;

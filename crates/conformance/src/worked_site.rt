@@ -1,3 +1,5 @@
+//! The worked site under a clock that is given and under the whole server, as tests.
+
 use crate::turns::{
     ANY, FIND, FIRST, NO_ELEMENT, NOT_FOUND, NULL, OK, OPENED, REFERENCE, Turn, converse_over,
 };

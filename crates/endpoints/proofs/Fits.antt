@@ -1,161 +1,97 @@
--- A pattern's tokens take a path just where its segments fit the path's.
-use Rattle.std.proofs.Common.{◌≡◌, ◌⊎◌, inl, inr, ℕ, List, [], ◌∷◌, ◌++◌, Bool, true, false, cond, refl, sym, ap, ◌∙◌, arith, ◌==◌, ltb, ◌&&◌, not}
+-- Tokens take a path just where their segments take the path's.
+use Rattle.std.proofs.Common.{◌≡◌, ℕ, List, [], ◌∷◌, Bool, true, false, cond, refl, sym, ap, ◌∙◌, arith, ◌==◌, ltb, ◌&&◌, not, map}
+use Rattle.std.proofs.lemmas.Bool.{and_parts}
 use Rattle.std.proofs.lemmas.Bool.Decides.{nat_tests}
-use Rattle.std.specs.List.{onto_first}
-use Rattle.endpoints.specs.Path.{segments, same_text, is_variable, is_some_text, fits_segment, fits}
-use Rattle.endpoints.proofs.Walk.{takes, Clear, Cut, cut_at, rest-clear, rest-cut}
+use Rattle.std.proofs.Math.Bool.{and_assoc}
+use Rattle.std.specs.List.{onto_first, list_all}
+use Rattle.endpoints.specs.Path.{segments, same_text, is_variable, fits_segment, fits}
+use Rattle.endpoints.proofs.Walk.{takes, rest_of, is_whole, slash_next}
 
-abbrev pub tokens_in : Bool → List ℕ → List ℕ
-tokens_in true part = 256 ∷ []
-tokens_in false part = part
+-- a segment of tokens takes a segment of a path
+abbrev part_takes : List ℕ → List ℕ → Bool
+part_takes [] [] = true
+part_takes [] (b ∷ p) = false
+part_takes (x ∷ t) [] = false
+part_takes (x ∷ t) (b ∷ p) = cond (x == 256) true ((x == b) && part_takes t p)
+
+-- as many segments, and each takes its one
+abbrev pub parts_take : List (List ℕ) → List (List ℕ) → Bool
+parts_take [] [] = true
+parts_take [] (s ∷ ss) = false
+parts_take (t ∷ ts) [] = false
+parts_take (t ∷ ts) (s ∷ ss) = part_takes t s && parts_take ts ss
+
+-- the first segment of a path, and the others
+record Parted (p : List ℕ) : Type 0 where
+  head : List ℕ
+  tail : List (List ℕ)
+  is : segments p ≡ head ∷ tail
+  rest : segments (rest_of p) ≡ [] ∷ tail
+  clear : slash_next p ≡ true → head ≡ []
+
+parted : (p : List ℕ) → Parted p
+parted [] = record { head = []; tail = []; is = refl; rest = refl; clear = λ e. refl }
+parted (b ∷ p) = by (b == 47) refl (parted p)
+  where
+    by : (v : Bool) → (b == 47) ≡ v → Parted p → Parted (b ∷ p)
+    by true e r = record { head = []; tail = segments p; is = rw e refl; rest = rw (e, e) refl; clear = λ f. refl }
+    by false e r = record { head = b ∷ r.head; tail = r.tail; is = rw (e, r.is) refl; rest = rw e r.rest; clear = λ f. cc }
+
+pub takes-parts : (t p : List ℕ) → is_whole t ≡ true → takes t p ≡ parts_take (segments t) (segments p)
+takes-parts [] [] h = refl
+takes-parts [] (b ∷ p) h = by (b == 47) (parted p)
+  where
+    by : (w : Bool) → Parted p → false ≡ parts_take ([] ∷ []) (cond w ([] ∷ segments p) (onto_first b (segments p)))
+    by true r = rw r.is refl
+    by false r = rw r.is refl
+takes-parts (x ∷ t) [] h = by (x == 47) (parted t)
+  where
+    by : (v : Bool) → Parted t → false ≡ parts_take (cond v ([] ∷ segments t) (onto_first x (segments t))) ([] ∷ [])
+    by true r = rw r.is refl
+    by false r = rw r.is refl
+takes-parts (x ∷ t) (b ∷ p) h =
+    let w = and_parts (cond (x == 256) (slash_next t) (ltb x 256)) (is_whole t) h in
+    by (x == 256) (x == 47) (b == 47) refl refl refl w.0 (parted t) (parted p) (λ p. takes-parts t p w.1)
+  where
+    by : (u v w : Bool) → (x == 256) ≡ u → (x == 47) ≡ v → (b == 47) ≡ w → cond u (slash_next t) (ltb x 256) ≡ true → Parted t → Parted p
+        → ((p : List ℕ) → takes t p ≡ parts_take (segments t) (segments p))
+        → cond u (not w && takes t (rest_of p)) ((x == b) && takes t p) ≡ parts_take (cond v ([] ∷ segments t) (onto_first x (segments t))) (cond w ([] ∷ segments p) (onto_first b (segments p)))
+    by true true w e f g n r s ih = absurd (grind (arith, nat_tests))
+    by true false true e f g n r s ih = rw r.is refl
+    by true false false e f g n r s ih = rw (r.is, s.is, e) (ih (rest_of p) ∙ rw (r.is, s.rest, r.clear n) refl)
+    by false true true e f g n r s ih = let m : (x == b) ≡ true = grind (arith, nat_tests) in rw m (ih p)
+    by false true false e f g n r s ih = let m : (x == b) ≡ false = grind (arith, nat_tests) in rw (m, s.is) refl
+    by false false true e f g n r s ih = let m : (x == b) ≡ false = grind (arith, nat_tests) in rw (m, r.is) refl
+    by false false false e f g n r s ih = rw (ih p, r.is, s.is, e) (sym (and_assoc (x == b) (part_takes r.head s.head) (parts_take r.tail s.tail)))
 
 -- a segment of a pattern as tokens
 abbrev pub part_tokens : List ℕ → List ℕ
-part_tokens part = tokens_in (is_variable part) part
+part_tokens part = cond (is_variable part) (256 ∷ []) part
 
--- a pattern as tokens
-abbrev pub tokens_of : List (List ℕ) → List ℕ
-tokens_of [] = []
-tokens_of (p ∷ []) = part_tokens p
-tokens_of (p ∷ q ∷ ps) = part_tokens p ++ 47 ∷ tokens_of (q ∷ ps)
-
--- a literal of bytes, none a slash
+-- no byte of a literal is taken for a parameter
 abbrev pub is_literal : List ℕ → Bool
-is_literal [] = true
-is_literal (b ∷ l) = (ltb b 256 && not (b == 47)) && is_literal l
+is_literal part = list_all (λ x. not (x == 256)) part
 
-abbrev pub is_part : Bool → List ℕ → Bool
-is_part true p = true
-is_part false p = is_literal p
-
-abbrev pub are_parts : List (List ℕ) → Bool
-are_parts [] = false
-are_parts (p ∷ []) = is_part (is_variable p) p
-are_parts (p ∷ q ∷ ps) = is_part (is_variable p) p && are_parts (q ∷ ps)
-
-pub segments-clear : (p : List ℕ) → Clear p → segments p ≡ p ∷ []
-segments-clear [] c = refl
-segments-clear (b ∷ p) c = rw (c.0, segments-clear p c.1) refl
-
-pub segments-cut : (f q : List ℕ) → Clear f → segments (f ++ 47 ∷ q) ≡ f ∷ segments q
-segments-cut [] q c = refl
-segments-cut (b ∷ f) q c = rw (c.0, segments-cut f q c.1) refl
-
-none-fit : (q : List ℕ) → fits [] (segments q) ≡ false
-none-fit [] = refl
-none-fit (b ∷ q) = by (b == 47) (segments q)
+literal-takes : (part s : List ℕ) → is_literal part ≡ true → part_takes part s ≡ same_text part s
+literal-takes [] [] h = refl
+literal-takes [] (b ∷ s) h = refl
+literal-takes (x ∷ part) [] h = refl
+literal-takes (x ∷ part) (b ∷ s) h = by (x == 256) h (literal-takes part s)
   where
-    by : (v : Bool) (ss : List (List ℕ)) → fits [] (cond v ([] ∷ ss) (onto_first b ss)) ≡ false
-    by true ss = refl
-    by false [] = refl
-    by false (s ∷ ss) = refl
+    by : (v : Bool) → (not v && is_literal part) ≡ true → (is_literal part ≡ true → part_takes part s ≡ same_text part s)
+        → cond v true ((x == b) && part_takes part s) ≡ ((x == b) && same_text part s)
+    by true h ih = cc
+    by false h ih = ap (λ w. (x == b) && w) (ih h)
 
-and-false : (a : Bool) → (a && false) ≡ false
-and-false true = refl
-and-false false = refl
+part-takes : (v : Bool) (part s : List ℕ) → is_literal part ≡ true → part_takes (cond v (256 ∷ []) part) s ≡ fits_segment v part s
+part-takes true part [] h = refl
+part-takes true part (b ∷ s) h = refl
+part-takes false part s h = literal-takes part s h
 
-and-true : (a : Bool) → (a && true) ≡ a
-and-true true = refl
-and-true false = refl
-
-byte : (x : ℕ) (l : List ℕ) → is_literal (x ∷ l) ≡ true → ((x == 256) ≡ false) × ((x == 47) ≡ false) × (is_literal l ≡ true)
-byte x l h = by (ltb x 256) (x == 47) refl refl h
-  where
-    by : (v w : Bool) → ltb x 256 ≡ v → (x == 47) ≡ w → ((v && not w) && is_literal l) ≡ true → ((x == 256) ≡ false) × ((x == 47) ≡ false) × (is_literal l ≡ true)
-    by true false e f g = (grind (arith, nat_tests), f, g)
-    by true true e f g = cc
-    by false w e f g = cc
-
--- a literal that ends the pattern, and one before a slash
-literal-end : (l p : List ℕ) → is_literal l ≡ true → Clear p → takes l p ≡ same_text l p
-literal-end [] [] h c = refl
-literal-end [] (b ∷ p) h c = refl
-literal-end (x ∷ l) [] h c = refl
-literal-end (x ∷ l) (b ∷ p) h c =
-    let y = byte x l h in
-    rw y.0 (ap (λ v. (x == b) && v) (literal-end l p y.2 c.1))
-
-literal-end-cut : (l f q : List ℕ) → is_literal l ≡ true → Clear f → takes l (f ++ 47 ∷ q) ≡ false
-literal-end-cut [] [] q h c = refl
-literal-end-cut [] (b ∷ f) q h c = refl
-literal-end-cut (x ∷ l) [] q h c = let y = byte x l h in rw (y.0, y.1) refl
-literal-end-cut (x ∷ l) (b ∷ f) q h c =
-    let y = byte x l h in
-    rw (y.0, literal-end-cut l f q y.2 c.1) (and-false (x == b))
-
-literal-more : (l t p : List ℕ) → is_literal l ≡ true → Clear p → takes (l ++ 47 ∷ t) p ≡ false
-literal-more [] t [] h c = refl
-literal-more [] t (b ∷ p) h c = let e : (47 == b) ≡ false = grind (arith, nat_tests) in rw e refl
-literal-more (x ∷ l) t [] h c = refl
-literal-more (x ∷ l) t (b ∷ p) h c =
-    let y = byte x l h in
-    rw (y.0, literal-more l t p y.2 c.1) (and-false (x == b))
-
-literal-more-cut : (l t f q : List ℕ) → is_literal l ≡ true → Clear f → takes (l ++ 47 ∷ t) (f ++ 47 ∷ q) ≡ (same_text l f && takes t q)
-literal-more-cut [] t [] q h c = refl
-literal-more-cut [] t (b ∷ f) q h c = let e : (47 == b) ≡ false = grind (arith, nat_tests) in rw e refl
-literal-more-cut (x ∷ l) t [] q h c = let y = byte x l h in rw (y.0, y.1) refl
-literal-more-cut (x ∷ l) t (b ∷ f) q h c =
-    let y = byte x l h in
-    rw (y.0, literal-more-cut l t f q y.2 c.1) (assoc (x == b) (same_text l f) (takes t q))
-  where
-    assoc : (u v w : Bool) → (u && (v && w)) ≡ ((u && v) && w)
-    assoc true v w = refl
-    assoc false v w = refl
-
-variable-end : (p : List ℕ) → Clear p → takes (256 ∷ []) p ≡ is_some_text p
-variable-end [] c = refl
-variable-end (b ∷ p) c = rw (c.0, rest-clear p c.1) refl
-
-variable-end-cut : (f q : List ℕ) → Clear f → takes (256 ∷ []) (f ++ 47 ∷ q) ≡ false
-variable-end-cut [] q c = refl
-variable-end-cut (b ∷ f) q c = rw (c.0, rest-cut f q c.1) refl
-
-variable-more : (t p : List ℕ) → Clear p → takes (256 ∷ 47 ∷ t) p ≡ false
-variable-more t [] c = refl
-variable-more t (b ∷ p) c = rw (c.0, rest-clear p c.1) refl
-
-variable-more-cut : (t f q : List ℕ) → Clear f → takes (256 ∷ 47 ∷ t) (f ++ 47 ∷ q) ≡ (is_some_text f && takes t q)
-variable-more-cut t [] q c = refl
-variable-more-cut t (b ∷ f) q c = rw (c.0, rest-cut f q c.1) refl
-
-part-end : (v : Bool) (l p : List ℕ) → is_part v l ≡ true → Clear p → takes (tokens_in v l) p ≡ fits_segment v l p
-part-end true l p h c = variable-end p c
-part-end false l p h c = literal-end l p h c
-
-part-end-cut : (v : Bool) (l f q : List ℕ) → is_part v l ≡ true → Clear f → takes (tokens_in v l) (f ++ 47 ∷ q) ≡ false
-part-end-cut true l f q h c = variable-end-cut f q c
-part-end-cut false l f q h c = literal-end-cut l f q h c
-
-part-more : (v : Bool) (l t p : List ℕ) → is_part v l ≡ true → Clear p → takes (tokens_in v l ++ 47 ∷ t) p ≡ false
-part-more true l t p h c = variable-more t p c
-part-more false l t p h c = literal-more l t p h c
-
-part-more-cut : (v : Bool) (l t f q : List ℕ) → is_part v l ≡ true → Clear f → takes (tokens_in v l ++ 47 ∷ t) (f ++ 47 ∷ q) ≡ (fits_segment v l f && takes t q)
-part-more-cut true l t f q h c = variable-more-cut t f q c
-part-more-cut false l t f q h c = literal-more-cut l t f q h c
-
-parts : (p q : List ℕ) (ps : List (List ℕ)) → are_parts (p ∷ q ∷ ps) ≡ true → (is_part (is_variable p) p ≡ true) × (are_parts (q ∷ ps) ≡ true)
-parts p q ps h = by (is_part (is_variable p) p) h
-  where
-    by : (v : Bool) → (v && are_parts (q ∷ ps)) ≡ true → (v ≡ true) × (are_parts (q ∷ ps) ≡ true)
-    by true e = (refl, e)
-    by false e = cc
-
-pub takes-fits : (p : List ℕ) (ps : List (List ℕ)) (path : List ℕ) → are_parts (p ∷ ps) ≡ true → takes (tokens_of (p ∷ ps)) path ≡ fits (p ∷ ps) (segments path)
-takes-fits p [] path h = by (cut_at path)
-  where
-    good : is_part (is_variable p) p ≡ true
-    good = h
-
-    by : Clear path ⊎ Cut path → takes (part_tokens p) path ≡ fits (p ∷ []) (segments path)
-    by (inl c) = rw (segments-clear path c) (part-end (is_variable p) p path good c ∙ sym (and-true (fits_segment (is_variable p) p path)))
-    by (inr c) = rw (c.is, segments-cut c.front c.back c.clear, none-fit c.back) (part-end-cut (is_variable p) p c.front c.back good c.clear ∙ sym (and-false (fits_segment (is_variable p) p c.front)))
-takes-fits p (q ∷ ps) path h = by (cut_at path) (λ back. takes-fits q ps back (parts p q ps h).1)
-  where
-    good : is_part (is_variable p) p ≡ true
-    good = (parts p q ps h).0
-
-    by : Clear path ⊎ Cut path → ((back : List ℕ) → takes (tokens_of (q ∷ ps)) back ≡ fits (q ∷ ps) (segments back)) → takes (part_tokens p ++ 47 ∷ tokens_of (q ∷ ps)) path ≡ fits (p ∷ q ∷ ps) (segments path)
-    by (inl c) ih = rw (segments-clear path c) (part-more (is_variable p) p (tokens_of (q ∷ ps)) path good c ∙ sym (and-false (fits_segment (is_variable p) p path)))
-    by (inr c) ih = rw (c.is, segments-cut c.front c.back c.clear) (part-more-cut (is_variable p) p (tokens_of (q ∷ ps)) c.front c.back good c.clear ∙ ap (λ v. fits_segment (is_variable p) p c.front && v) (ih c.back))
+pub parts-fit : (ps ss : List (List ℕ)) → list_all is_literal ps ≡ true → parts_take (map part_tokens ps) ss ≡ fits ps ss
+parts-fit [] [] h = refl
+parts-fit [] (s ∷ ss) h = refl
+parts-fit (p ∷ ps) [] h = refl
+parts-fit (p ∷ ps) (s ∷ ss) h =
+    let w = and_parts (is_literal p) (list_all is_literal ps) h in
+    rw (part-takes (is_variable p) p s w.0, parts-fit ps ss w.1) refl

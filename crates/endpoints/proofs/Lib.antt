@@ -1,11 +1,9 @@
 pub mod Walk
 pub mod Fits
-pub mod Rows
 pub mod Names
-pub mod Built
+pub mod Rows
+pub mod Found
 pub mod Answer
-pub mod Scalars
-pub mod Spelled
-pub mod Back
-pub mod Joined
 pub mod Second
+pub mod Spelled
+pub mod Joined

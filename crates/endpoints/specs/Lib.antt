@@ -3,5 +3,5 @@ pub mod Path
 pub mod Segments
 pub mod Route
 pub mod Spelling
-pub mod Commands
 pub mod Routes
+pub mod Shown

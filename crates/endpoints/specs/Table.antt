@@ -8,13 +8,13 @@ pub record Row : Type 0 where
   pub method : List ℕ
   pub path : List ℕ
 
-abbrev get : List ℕ → List ℕ → Row
+abbrev pub get : List ℕ → List ℕ → Row
 get name path = record { name = name; method = codes "GET"; path = path }
 
-abbrev post : List ℕ → List ℕ → Row
+abbrev pub post : List ℕ → List ℕ → Row
 post name path = record { name = name; method = codes "POST"; path = path }
 
-abbrev delete : List ℕ → List ℕ → Row
+abbrev pub delete : List ℕ → List ℕ → Row
 delete name path = record { name = name; method = codes "DELETE"; path = path }
 
 abbrev pub row_of : Command → Row

@@ -1,7 +1,12 @@
+//! The commands of the protocol.
+
+use crate::table::name_of;
+use std::fmt;
+
 /// A command of the protocol: one row of the table of commands. The names are those of the W3C
 /// Recommendation WebDriver of 5 June 2018, section 6.5, written as one word; the three of shadow
 /// roots are of Level 2.
-#[derive(Clone, Copy, Debug, PartialEq, Eq)]
+#[derive(Clone, Copy, PartialEq, Eq)]
 pub enum Command {
     /// `POST /session`. Makes a session.
     NewSession,
@@ -119,4 +124,11 @@ pub enum Command {
     TakeScreenshot,
     /// `GET /session/{session}/element/{item}/screenshot`. A picture of the element.
     TakeElementScreenshot,
+}
+
+/// Prints the command's name.
+impl fmt::Debug for Command {
+    fn fmt<W: fmt::Write>(&self, f: &mut fmt::Formatter<W>) -> fmt::Result {
+        f.write_str(name_of(*self))
+    }
 }

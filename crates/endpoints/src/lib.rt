@@ -18,6 +18,3 @@ pub use path::{SEGMENT, path_of};
 pub use route::{Route, RouteFault};
 pub use segments::{is_spelled, segment, session_stands_second};
 pub use table::{COMMANDS, command_of, method_of, one_command_for_name, pattern_of};
-
-#[cfg(test)]
-mod tests;

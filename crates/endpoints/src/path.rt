@@ -1,6 +1,9 @@
-ghost use Rattle.std.specs.Prelude.{◌≡◌, ◌==◌, ◌++◌, ◌∷◌, [], true, IfOk, IfSome, OnOk, if◌then◌else◌, codes, string_bytes};
+//! The path that is written from a route.
+
+ghost use Rattle.std.specs.Prelude.{◌≡◌, ◌==◌, ◌<◌, ◌++◌, ◌∷◌, [], IfOk, OnOk, if◌then◌else◌, codes, string_bytes};
+ghost use Rattle.std.specs.List.{All};
 ghost use Rattle.std.specs.Option.{option_map, unwrap_or};
-ghost use Rattle.std.specs.Str.{all_scalars, encode_utf8_all};
+ghost use Rattle.std.specs.Str.{encode_utf8_all};
 ghost use Rattle.endpoints.specs.Table.{row_of};
 ghost use Rattle.endpoints.specs.Path.{same_text, is_variable as starts_variable};
 ghost use Rattle.endpoints.specs.Route.{IsRouteOf};
@@ -56,18 +59,27 @@ fn is_variable(part: &str) -> bool
 
 // A variable's text in UTF-8, which is empty where there is none.
 fn text_of(text: &Option<WdText>) -> &str
-    ensures bytes { result.now ≡ unwrap_or (option_map encode_utf8_all text.now) [] }
-    ensures scalars { IfSome text.now (λ t. all_scalars t ≡ true) }
+    ensures is { result.now ≡ unwrap_or (option_map encode_utf8_all text.now) [] }
+    ensures bytes { All (λ b. b < 256) result.now }
 {
     match text {
-        Some(text) => text.as_str(),
+        Some(text) => of_bytes(text.as_str()),
         None => "",
     }
 }
 
+// The text as it is, which is of bytes.
+fn of_bytes(text: &str) -> &str
+    ensures is { result.now ≡ text.now }
+    ensures bytes { All (λ b. b < 256) result.now }
+{
+    text
+}
+
 // The text for a variable of a pattern.
 fn text_for<'a>(part: &str, session: &'a str, item: &'a str, name: &'a str) -> &'a str
-    ensures { result.now ≡ (if same_text part.now (codes "{session}") then session.now else if same_text part.now (codes "{item}") then item.now else name.now) }
+    ensures { result.now ≡
+        (if same_text part.now (codes "{session}") then session.now else if same_text part.now (codes "{item}") then item.now else name.now) }
 {
     if part == "{session}" {
         session

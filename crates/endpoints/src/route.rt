@@ -1,12 +1,8 @@
-ghost use Rattle.std.specs.Prelude.{◌≡◌};
-ghost use Rattle.endpoints.specs.declared.route.RouteFault.TheVariants.{Memory as OutOfMemory};
+//! The route of a request, and why there is none.
 
 use crate::command::Command;
-use std::alloc::{AllocError, AllocFailed};
-use std::error::Error;
-use std::fmt;
 use wd_errors::Code;
-use wd_json::{Memory, WdText};
+use wd_json::{Fault, WdText};
 
 /// What a request asks for: a command, and what stands in its path for each variable of the
 /// command's pattern, percent-decoded. A variable that the pattern hasn't is `None`.
@@ -21,46 +17,6 @@ pub struct Route {
     pub name: Option<WdText>,
 }
 
-/// Why a request has no route.
-#[derive(Clone, Copy, Debug, PartialEq, Eq)]
-pub enum RouteFault {
-    /// The table has no such row; the code is `UnknownCommand` or `UnknownMethod`.
-    Refused(Code),
-    /// There was no memory.
-    Memory,
-}
-
-impl fmt::Display for RouteFault {
-    fn fmt<W: fmt::Write>(&self, f: &mut fmt::Formatter<W>) -> fmt::Result {
-        match self {
-            RouteFault::Refused(code) => write!(f, "{code}"),
-            RouteFault::Memory => write!(f, "out of memory"),
-        }
-    }
-}
-
-impl Error for RouteFault {}
-
-impl From<Memory> for RouteFault {
-    ghost from_gives = { λ _ fault. fault ≡ OutOfMemory };
-
-    fn from(_error: Memory) -> RouteFault {
-        RouteFault::Memory
-    }
-}
-
-impl From<AllocError> for RouteFault {
-    ghost from_gives = { λ _ fault. fault ≡ OutOfMemory };
-
-    fn from(_error: AllocError) -> RouteFault {
-        RouteFault::Memory
-    }
-}
-
-impl<T: Drop> From<AllocFailed<T>> for RouteFault {
-    ghost from_gives = { λ _ fault. fault ≡ OutOfMemory };
-
-    fn from(_error: AllocFailed<T>) -> RouteFault {
-        RouteFault::Memory
-    }
-}
+/// Why a request has no route: the table has no such row, with the code `UnknownCommand` or `UnknownMethod`, or there
+/// was no memory.
+pub type RouteFault = Fault<Code>;

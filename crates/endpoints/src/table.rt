@@ -1,272 +1,205 @@
-ghost use Rattle.std.specs.Prelude.{◌≡◌, ◌≢◌, IfSome, IfNone, codes};
-ghost use Rattle.endpoints.specs.declared.command.Command.{Command as AnyCommand};
-ghost use Rattle.endpoints.specs.Table.{row_of};
+//! The table of commands: the name, the method and the path of each, and who has a name.
 
-use crate::command::Command;
+ghost use Rattle.std.specs.Prelude.{◌≡◌, ◌≢◌, IfSome, IfNone};
+ghost use Rattle.endpoints.specs.declared.command.Command.{Command as AnyCommand};
+ghost use Rattle.endpoints.specs.Shown.{shown};
+ghost use Rattle.endpoints.specs.Table.{row_of, get as get_row, post as post_row, delete as delete_row};
+
+use crate::command::Command::{self, *};
+use Verb::*;
 use http::Method;
 
 /// Every command, in the order of the table.
 pub const COMMANDS: [Command; 58] = [
-    Command::NewSession,
-    Command::DeleteSession,
-    Command::Status,
-    Command::GetTimeouts,
-    Command::SetTimeouts,
-    Command::NavigateTo,
-    Command::GetCurrentUrl,
-    Command::Back,
-    Command::Forward,
-    Command::Refresh,
-    Command::GetTitle,
-    Command::GetWindowHandle,
-    Command::CloseWindow,
-    Command::SwitchToWindow,
-    Command::GetWindowHandles,
-    Command::GetWindowRect,
-    Command::SetWindowRect,
-    Command::MaximizeWindow,
-    Command::FullscreenWindow,
-    Command::MinimizeWindow,
-    Command::SwitchToFrame,
-    Command::SwitchToParentFrame,
-    Command::GetActiveElement,
-    Command::FindElement,
-    Command::FindElements,
-    Command::FindElementFromElement,
-    Command::FindElementsFromElement,
-    Command::FindElementFromShadowRoot,
-    Command::FindElementsFromShadowRoot,
-    Command::GetElementShadowRoot,
-    Command::IsElementSelected,
-    Command::GetElementAttribute,
-    Command::GetElementProperty,
-    Command::GetElementCssValue,
-    Command::GetElementText,
-    Command::GetElementTagName,
-    Command::GetElementRect,
-    Command::IsElementEnabled,
-    Command::IsElementDisplayed,
-    Command::ElementClick,
-    Command::ElementClear,
-    Command::ElementSendKeys,
-    Command::GetPageSource,
-    Command::ExecuteScript,
-    Command::ExecuteAsyncScript,
-    Command::GetAllCookies,
-    Command::AddCookie,
-    Command::DeleteAllCookies,
-    Command::GetNamedCookie,
-    Command::DeleteCookie,
-    Command::PerformActions,
-    Command::ReleaseActions,
-    Command::DismissAlert,
-    Command::AcceptAlert,
-    Command::GetAlertText,
-    Command::SendAlertText,
-    Command::TakeScreenshot,
-    Command::TakeElementScreenshot,
+    NewSession,
+    DeleteSession,
+    Status,
+    GetTimeouts,
+    SetTimeouts,
+    NavigateTo,
+    GetCurrentUrl,
+    Back,
+    Forward,
+    Refresh,
+    GetTitle,
+    GetWindowHandle,
+    CloseWindow,
+    SwitchToWindow,
+    GetWindowHandles,
+    GetWindowRect,
+    SetWindowRect,
+    MaximizeWindow,
+    FullscreenWindow,
+    MinimizeWindow,
+    SwitchToFrame,
+    SwitchToParentFrame,
+    GetActiveElement,
+    FindElement,
+    FindElements,
+    FindElementFromElement,
+    FindElementsFromElement,
+    FindElementFromShadowRoot,
+    FindElementsFromShadowRoot,
+    GetElementShadowRoot,
+    IsElementSelected,
+    GetElementAttribute,
+    GetElementProperty,
+    GetElementCssValue,
+    GetElementText,
+    GetElementTagName,
+    GetElementRect,
+    IsElementEnabled,
+    IsElementDisplayed,
+    ElementClick,
+    ElementClear,
+    ElementSendKeys,
+    GetPageSource,
+    ExecuteScript,
+    ExecuteAsyncScript,
+    GetAllCookies,
+    AddCookie,
+    DeleteAllCookies,
+    GetNamedCookie,
+    DeleteCookie,
+    PerformActions,
+    ReleaseActions,
+    DismissAlert,
+    AcceptAlert,
+    GetAlertText,
+    SendAlertText,
+    TakeScreenshot,
+    TakeElementScreenshot,
 ];
 
-// The first command of each path.
-pub const PATHS: [Command; 48] = [
-    Command::NewSession,
-    Command::DeleteSession,
-    Command::Status,
-    Command::GetTimeouts,
-    Command::NavigateTo,
-    Command::Back,
-    Command::Forward,
-    Command::Refresh,
-    Command::GetTitle,
-    Command::GetWindowHandle,
-    Command::GetWindowHandles,
-    Command::GetWindowRect,
-    Command::MaximizeWindow,
-    Command::FullscreenWindow,
-    Command::MinimizeWindow,
-    Command::SwitchToFrame,
-    Command::SwitchToParentFrame,
-    Command::GetActiveElement,
-    Command::FindElement,
-    Command::FindElements,
-    Command::FindElementFromElement,
-    Command::FindElementsFromElement,
-    Command::FindElementFromShadowRoot,
-    Command::FindElementsFromShadowRoot,
-    Command::GetElementShadowRoot,
-    Command::IsElementSelected,
-    Command::GetElementAttribute,
-    Command::GetElementProperty,
-    Command::GetElementCssValue,
-    Command::GetElementText,
-    Command::GetElementTagName,
-    Command::GetElementRect,
-    Command::IsElementEnabled,
-    Command::IsElementDisplayed,
-    Command::ElementClick,
-    Command::ElementClear,
-    Command::ElementSendKeys,
-    Command::GetPageSource,
-    Command::ExecuteScript,
-    Command::ExecuteAsyncScript,
-    Command::GetAllCookies,
-    Command::GetNamedCookie,
-    Command::PerformActions,
-    Command::DismissAlert,
-    Command::AcceptAlert,
-    Command::GetAlertText,
-    Command::TakeScreenshot,
-    Command::TakeElementScreenshot,
-];
-
-// A row of the table.
-#[derive(Drop)]
-struct Row {
-    name: &'static str,
-    method: Method,
-    path: &'static str,
+/// The methods of the table.
+#[derive(Clone, Copy)]
+pub enum Verb {
+    Get,
+    Post,
+    Delete,
 }
 
+// A row of the table: a name, a method and a path.
+#[derive(Drop)]
+struct Row(&'static str, Verb, &'static str);
+
 fn get(name: &'static str, path: &'static str) -> Row
-    ensures name { result.name.now ≡ name.now }
-    ensures method { result.method ≡ codes "GET" }
-    ensures path { result.path.now ≡ path.now }
+    ensures { shown result ≡ get_row name.now path.now }
 {
-    let method = Method::GET;
-    Row { name, method, path }
+    Row(name, Get, path)
 }
 
 fn post(name: &'static str, path: &'static str) -> Row
-    ensures name { result.name.now ≡ name.now }
-    ensures method { result.method ≡ codes "POST" }
-    ensures path { result.path.now ≡ path.now }
+    ensures { shown result ≡ post_row name.now path.now }
 {
-    let method = Method::POST;
-    Row { name, method, path }
+    Row(name, Post, path)
 }
 
 fn delete(name: &'static str, path: &'static str) -> Row
-    ensures name { result.name.now ≡ name.now }
-    ensures method { result.method ≡ codes "DELETE" }
-    ensures path { result.path.now ≡ path.now }
+    ensures { shown result ≡ delete_row name.now path.now }
 {
-    let method = Method::DELETE;
-    Row { name, method, path }
+    Row(name, Delete, path)
 }
 
 // The table.
 fn row_for(command: Command) -> Row
-    ensures name { result.name.now ≡ (row_of command).name }
-    ensures method { result.method ≡ (row_of command).method }
-    ensures path { result.path.now ≡ (row_of command).path }
+    ensures { shown result ≡ row_of command }
 {
     match command {
-        Command::NewSession => post("NewSession", "/session"),
-        Command::DeleteSession => delete("DeleteSession", "/session/{session}"),
-        Command::Status => get("Status", "/status"),
-        Command::GetTimeouts => get("GetTimeouts", "/session/{session}/timeouts"),
-        Command::SetTimeouts => post("SetTimeouts", "/session/{session}/timeouts"),
-        Command::NavigateTo => post("NavigateTo", "/session/{session}/url"),
-        Command::GetCurrentUrl => get("GetCurrentUrl", "/session/{session}/url"),
-        Command::Back => post("Back", "/session/{session}/back"),
-        Command::Forward => post("Forward", "/session/{session}/forward"),
-        Command::Refresh => post("Refresh", "/session/{session}/refresh"),
-        Command::GetTitle => get("GetTitle", "/session/{session}/title"),
-        Command::GetWindowHandle => get("GetWindowHandle", "/session/{session}/window"),
-        Command::CloseWindow => delete("CloseWindow", "/session/{session}/window"),
-        Command::SwitchToWindow => post("SwitchToWindow", "/session/{session}/window"),
-        Command::GetWindowHandles => get("GetWindowHandles", "/session/{session}/window/handles"),
-        Command::GetWindowRect => get("GetWindowRect", "/session/{session}/window/rect"),
-        Command::SetWindowRect => post("SetWindowRect", "/session/{session}/window/rect"),
-        Command::MaximizeWindow => post("MaximizeWindow", "/session/{session}/window/maximize"),
-        Command::FullscreenWindow => post(
-            "FullscreenWindow",
-            "/session/{session}/window/fullscreen",
-        ),
-        Command::MinimizeWindow => post("MinimizeWindow", "/session/{session}/window/minimize"),
-        Command::SwitchToFrame => post("SwitchToFrame", "/session/{session}/frame"),
-        Command::SwitchToParentFrame => post(
-            "SwitchToParentFrame",
-            "/session/{session}/frame/parent",
-        ),
-        Command::GetActiveElement => get("GetActiveElement", "/session/{session}/element/active"),
-        Command::FindElement => post("FindElement", "/session/{session}/element"),
-        Command::FindElements => post("FindElements", "/session/{session}/elements"),
-        Command::FindElementFromElement => post(
+        NewSession => post("NewSession", "/session"),
+        DeleteSession => delete("DeleteSession", "/session/{session}"),
+        Status => get("Status", "/status"),
+        GetTimeouts => get("GetTimeouts", "/session/{session}/timeouts"),
+        SetTimeouts => post("SetTimeouts", "/session/{session}/timeouts"),
+        NavigateTo => post("NavigateTo", "/session/{session}/url"),
+        GetCurrentUrl => get("GetCurrentUrl", "/session/{session}/url"),
+        Back => post("Back", "/session/{session}/back"),
+        Forward => post("Forward", "/session/{session}/forward"),
+        Refresh => post("Refresh", "/session/{session}/refresh"),
+        GetTitle => get("GetTitle", "/session/{session}/title"),
+        GetWindowHandle => get("GetWindowHandle", "/session/{session}/window"),
+        CloseWindow => delete("CloseWindow", "/session/{session}/window"),
+        SwitchToWindow => post("SwitchToWindow", "/session/{session}/window"),
+        GetWindowHandles => get("GetWindowHandles", "/session/{session}/window/handles"),
+        GetWindowRect => get("GetWindowRect", "/session/{session}/window/rect"),
+        SetWindowRect => post("SetWindowRect", "/session/{session}/window/rect"),
+        MaximizeWindow => post("MaximizeWindow", "/session/{session}/window/maximize"),
+        FullscreenWindow => post("FullscreenWindow", "/session/{session}/window/fullscreen"),
+        MinimizeWindow => post("MinimizeWindow", "/session/{session}/window/minimize"),
+        SwitchToFrame => post("SwitchToFrame", "/session/{session}/frame"),
+        SwitchToParentFrame => post("SwitchToParentFrame", "/session/{session}/frame/parent"),
+        GetActiveElement => get("GetActiveElement", "/session/{session}/element/active"),
+        FindElement => post("FindElement", "/session/{session}/element"),
+        FindElements => post("FindElements", "/session/{session}/elements"),
+        FindElementFromElement => post(
             "FindElementFromElement",
             "/session/{session}/element/{item}/element",
         ),
-        Command::FindElementsFromElement => post(
+        FindElementsFromElement => post(
             "FindElementsFromElement",
             "/session/{session}/element/{item}/elements",
         ),
-        Command::FindElementFromShadowRoot => post(
+        FindElementFromShadowRoot => post(
             "FindElementFromShadowRoot",
             "/session/{session}/shadow/{item}/element",
         ),
-        Command::FindElementsFromShadowRoot => post(
+        FindElementsFromShadowRoot => post(
             "FindElementsFromShadowRoot",
             "/session/{session}/shadow/{item}/elements",
         ),
-        Command::GetElementShadowRoot => get(
+        GetElementShadowRoot => get(
             "GetElementShadowRoot",
             "/session/{session}/element/{item}/shadow",
         ),
-        Command::IsElementSelected => get(
+        IsElementSelected => get(
             "IsElementSelected",
             "/session/{session}/element/{item}/selected",
         ),
-        Command::GetElementAttribute => get(
+        GetElementAttribute => get(
             "GetElementAttribute",
             "/session/{session}/element/{item}/attribute/{name}",
         ),
-        Command::GetElementProperty => get(
+        GetElementProperty => get(
             "GetElementProperty",
             "/session/{session}/element/{item}/property/{name}",
         ),
-        Command::GetElementCssValue => get(
+        GetElementCssValue => get(
             "GetElementCssValue",
             "/session/{session}/element/{item}/css/{name}",
         ),
-        Command::GetElementText => get("GetElementText", "/session/{session}/element/{item}/text"),
-        Command::GetElementTagName => get(
+        GetElementText => get("GetElementText", "/session/{session}/element/{item}/text"),
+        GetElementTagName => get(
             "GetElementTagName",
             "/session/{session}/element/{item}/name",
         ),
-        Command::GetElementRect => get("GetElementRect", "/session/{session}/element/{item}/rect"),
-        Command::IsElementEnabled => get(
+        GetElementRect => get("GetElementRect", "/session/{session}/element/{item}/rect"),
+        IsElementEnabled => get(
             "IsElementEnabled",
             "/session/{session}/element/{item}/enabled",
         ),
-        Command::IsElementDisplayed => get(
+        IsElementDisplayed => get(
             "IsElementDisplayed",
             "/session/{session}/element/{item}/displayed",
         ),
-        Command::ElementClick => post("ElementClick", "/session/{session}/element/{item}/click"),
-        Command::ElementClear => post("ElementClear", "/session/{session}/element/{item}/clear"),
-        Command::ElementSendKeys => post(
-            "ElementSendKeys",
-            "/session/{session}/element/{item}/value",
-        ),
-        Command::GetPageSource => get("GetPageSource", "/session/{session}/source"),
-        Command::ExecuteScript => post("ExecuteScript", "/session/{session}/execute/sync"),
-        Command::ExecuteAsyncScript => post(
-            "ExecuteAsyncScript",
-            "/session/{session}/execute/async",
-        ),
-        Command::GetAllCookies => get("GetAllCookies", "/session/{session}/cookie"),
-        Command::AddCookie => post("AddCookie", "/session/{session}/cookie"),
-        Command::DeleteAllCookies => delete("DeleteAllCookies", "/session/{session}/cookie"),
-        Command::GetNamedCookie => get("GetNamedCookie", "/session/{session}/cookie/{name}"),
-        Command::DeleteCookie => delete("DeleteCookie", "/session/{session}/cookie/{name}"),
-        Command::PerformActions => post("PerformActions", "/session/{session}/actions"),
-        Command::ReleaseActions => delete("ReleaseActions", "/session/{session}/actions"),
-        Command::DismissAlert => post("DismissAlert", "/session/{session}/alert/dismiss"),
-        Command::AcceptAlert => post("AcceptAlert", "/session/{session}/alert/accept"),
-        Command::GetAlertText => get("GetAlertText", "/session/{session}/alert/text"),
-        Command::SendAlertText => post("SendAlertText", "/session/{session}/alert/text"),
-        Command::TakeScreenshot => get("TakeScreenshot", "/session/{session}/screenshot"),
-        Command::TakeElementScreenshot => get(
+        ElementClick => post("ElementClick", "/session/{session}/element/{item}/click"),
+        ElementClear => post("ElementClear", "/session/{session}/element/{item}/clear"),
+        ElementSendKeys => post("ElementSendKeys", "/session/{session}/element/{item}/value"),
+        GetPageSource => get("GetPageSource", "/session/{session}/source"),
+        ExecuteScript => post("ExecuteScript", "/session/{session}/execute/sync"),
+        ExecuteAsyncScript => post("ExecuteAsyncScript", "/session/{session}/execute/async"),
+        GetAllCookies => get("GetAllCookies", "/session/{session}/cookie"),
+        AddCookie => post("AddCookie", "/session/{session}/cookie"),
+        DeleteAllCookies => delete("DeleteAllCookies", "/session/{session}/cookie"),
+        GetNamedCookie => get("GetNamedCookie", "/session/{session}/cookie/{name}"),
+        DeleteCookie => delete("DeleteCookie", "/session/{session}/cookie/{name}"),
+        PerformActions => post("PerformActions", "/session/{session}/actions"),
+        ReleaseActions => delete("ReleaseActions", "/session/{session}/actions"),
+        DismissAlert => post("DismissAlert", "/session/{session}/alert/dismiss"),
+        AcceptAlert => post("AcceptAlert", "/session/{session}/alert/accept"),
+        GetAlertText => get("GetAlertText", "/session/{session}/alert/text"),
+        SendAlertText => post("SendAlertText", "/session/{session}/alert/text"),
+        TakeScreenshot => get("TakeScreenshot", "/session/{session}/screenshot"),
+        TakeElementScreenshot => get(
             "TakeElementScreenshot",
             "/session/{session}/element/{item}/screenshot",
         ),
@@ -277,20 +210,24 @@ fn row_for(command: Command) -> Row
 pub fn method_of(command: Command) -> Method
     ensures { result ≡ (row_of command).method }
 {
-    row_for(command).method
+    match row_for(command).1 {
+        Get => Method::GET,
+        Post => Method::POST,
+        Delete => Method::DELETE,
+    }
 }
 
 /// The path of a command, with its variables in braces: `{session}`, `{item}` and `{name}`.
 pub fn pattern_of(command: Command) -> &'static str
     ensures { result.now ≡ (row_of command).path }
 {
-    row_for(command).path
+    row_for(command).2
 }
 
-fn name_of(command: Command) -> &'static str
+pub(crate) fn name_of(command: Command) -> &'static str
     ensures { result.now ≡ (row_of command).name }
 {
-    row_for(command).name
+    row_for(command).0
 }
 
 /// The command with this name, as `NewSession`; `None` exactly where no command has it. Names are

@@ -1,16 +1,34 @@
+//! What a path has for the variables of a command's pattern.
+
 ghost use Rattle.std.specs.Prelude.{◌≡◌, Some, IfOk, IfErr, IfSome, OnOk, slice_get};
 ghost use Rattle.std.specs.List.{position};
 ghost use Rattle.std.specs.Option.{option_map};
 ghost use Rattle.std.specs.Str.{encode_utf8_all, IsUtf8};
 ghost use Rattle.percent_encoding.specs.Percent.{percent_decode};
 ghost use Rattle.endpoints.specs.Path.{segments, same_text, value_of};
-ghost use Rattle.endpoints.specs.Route.{IsNoText};
+ghost use Rattle.endpoints.specs.Route.{IsNoText, IsRead, IsUnread};
 
-use crate::route::RouteFault;
+use crate::command::Command;
+use crate::route::{Route, RouteFault};
+use crate::table::pattern_of;
 use percent_encoding::DecodeError;
 use std::alloc::Global;
 use wd_errors::Code;
 use wd_json::WdText;
+
+// The route to a command whose pattern a path fits.
+pub fn route_at(alloc: Global, command: Command, path: &str) -> Result<Route, RouteFault>
+    ensures ok { IfOk result (IsRead command (segments path.now)) }
+    ensures cause { IfErr result (IsUnread command (segments path.now)) }
+{
+    let pattern = pattern_of(command);
+    Ok(Route {
+        command,
+        session: value(alloc, "{session}", pattern, path)?,
+        item: value(alloc, "{item}", pattern, path)?,
+        name: value(alloc, "{name}", pattern, path)?,
+    })
+}
 
 // The place of a segment in a pattern.
 fn place_of(pattern: &str, variable: &str) -> Option<usize>
@@ -40,7 +58,7 @@ fn decoded(alloc: Global, segment: &str) -> Result<WdText, RouteFault>
 }
 
 // What a path has for a variable of a pattern.
-pub fn value(
+fn value(
     alloc: Global,
     variable: &str,
     pattern: &str,

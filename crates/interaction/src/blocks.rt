@@ -1,12 +1,16 @@
+//! The tags whose elements stand on lines of their own.
+
 ghost use Rattle.std.specs.Prelude.{◌≡◌};
 ghost use Rattle.std.specs.Str.{chars};
 ghost use Rattle.interaction.specs.RenderedText.{is_word, is_heading, is_section, is_group, is_list_part, is_table_part, is_form_part, is_block_tag};
+
+use wd_json::is_same;
 
 /// Whether the text is this word.
 pub fn is_word(word: &str, text: &str) -> bool
     ensures { result ≡ is_word word.now (chars text.now) }
 {
-    text == word
+    is_same(text, word)
 }
 
 /// Whether elements with this tag stand on lines of their own.

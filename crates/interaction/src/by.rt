@@ -1,3 +1,5 @@
+//! The ways in which elements are looked for.
+
 /// How elements are looked for (W3C WebDriver, section 12.3, "locator strategies").
 #[derive(Clone, Copy, Debug, PartialEq, Eq)]
 pub enum By {

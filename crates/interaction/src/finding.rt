@@ -1,3 +1,5 @@
+//! The elements of a scope that a selector, a link's text or a tag finds, in document order.
+
 ghost use Rattle.std.specs.Prelude.{◌≡◌, ℕ, ◌<◌, ◌↔◌, false, Some, IfOk, IfErr, IsTrue};
 ghost use Rattle.std.specs.List.{All};
 ghost use Rattle.std.specs.Str.{chars, bytes_eq, encode_utf8_all};
@@ -117,7 +119,7 @@ fn is_link(alloc: Global, document: &Document, text: &str, node: NodeId) -> Resu
         return Ok(false);
     }
     let rendered = rendered_text(alloc, document, node)?;
-    Ok(is_same(&rendered, text))
+    Ok(rendered.is(text))
 }
 
 fn is_partial_link(
@@ -158,13 +160,6 @@ fn is_a(document: &Document, node: NodeId) -> bool
         Some(tag) => is_word("a", tag),
         None => false,
     }
-}
-
-// Whether the two have the same characters.
-fn is_same(rendered: &WdText, text: &str) -> bool
-    ensures { result ≡ bytes_eq rendered.now (chars text.now) }
-{
-    rendered.as_str() == text
 }
 
 // Whether the text stands somewhere in the other.

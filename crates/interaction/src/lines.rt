@@ -1,3 +1,5 @@
+//! Lines as they are written: white space run together, ends trimmed, no line empty.
+
 ghost use Rattle.std.specs.Prelude.{◌≡◌, [], ◌++◌, Some, None, map, OnOk};
 ghost use Rattle.std.specs.Str.{chars};
 ghost use Rattle.interaction.specs.RenderedText.{is_blank};

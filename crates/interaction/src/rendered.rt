@@ -1,3 +1,5 @@
+//! The text of a node as a user sees it.
+
 ghost use Rattle.std.specs.Prelude.{◌≡◌, ◌<◌, false, true, IfOk, OnOk};
 ghost use Rattle.page_tree.specs.Rows.{IsTree, count, tag_of, text_of};
 ghost use Rattle.page_tree.specs.Display.{is_shown};
@@ -6,12 +8,9 @@ ghost use Rattle.interaction.specs.Writing.{written};
 
 use crate::blocks::{is_block_tag, is_word};
 use crate::lines::Lines;
-use page_tree::Document;
+use page_tree::{Document, MAX_DEPTH};
 use std::alloc::Global;
 use wd_json::{Memory, NodeId, WdText};
-
-/// How deep a node may stand.
-const MAX_DEPTH: usize = 200;
 
 /// The text of a node as a user sees it (W3C WebDriver, section 13.5, "Get Element Text", by the
 /// page format's own rules): nothing where the node isn't shown; else the texts below it in document

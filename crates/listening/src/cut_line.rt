@@ -1,3 +1,5 @@
+//! A line of one connection whose bytes come in two parts.
+
 ghost use Rattle.std.specs.Prelude.{◌≡◌, ◌≤◌, [], false, IsTrue, IfOk, length};
 ghost use Rattle.wd_http.specs.Causes.{HasCause, HasWriteCause};
 ghost use Rattle.wd_http.specs.Talk.{GoesOn, Reads, Writes, HangsUp};

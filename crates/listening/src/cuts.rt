@@ -1,3 +1,5 @@
+//! Conversations under `pipe` cut in two at every place, as tests.
+
 use crate::cut_line::CutLine;
 use crate::exchanges::{DELETE, Exchange, FIND, NAME, OPEN, STATUS};
 use crate::served::responses;

@@ -1,3 +1,5 @@
+//! Requests and their responses, of which the connections are made.
+
 /// A request and the response to it.
 pub type Exchange = (&'static [u8], &'static [u8]);
 

@@ -1,3 +1,5 @@
+//! Each call of the line failing in turn under `listen`, as a test.
+
 use crate::exchanges::{Exchange, STATU, STATUS};
 use crate::served::{Failing, NOTHING_FAILS, served};
 use std::alloc::Global;

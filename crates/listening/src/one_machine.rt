@@ -1,3 +1,5 @@
+//! A session that lasts from one connection to the next, as a test.
+
 use crate::exchanges::{DELETE, Exchange, FIND, GONE, NAME, OPEN, STATUS};
 use crate::served::{NOTHING_FAILS, responses, served};
 use std::test::Fail;

@@ -1,3 +1,5 @@
+//! A sink whose writes fail while a line is printed, and files whose reads fail: as tests.
+
 use crate::exchanges::{Exchange, STATUS};
 use crate::served::{Failing, NOTHING_FAILS, Outcome, served};
 use std::alloc::Global;

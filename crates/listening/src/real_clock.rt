@@ -1,3 +1,5 @@
+//! The machine's clock with rests that take no time, as a test.
+
 use std::process::Abort;
 use wd_http::Clock;
 use webdriverd::SkipClock;

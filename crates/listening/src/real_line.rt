@@ -1,3 +1,5 @@
+//! A line over a real TCP port and its clients, taking turns, as a test.
+
 use std::io::{Read, Write};
 use std::net::{Ipv4Addr, Net, TcpStream};
 use std::process::Abort;

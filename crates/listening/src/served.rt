@@ -1,3 +1,5 @@
+//! Runs of the server over connections in memory, with calls that fail, and what each left.
+
 use crate::exchanges::Exchange;
 use std::alloc::Global;
 use std::process::Abort;

@@ -1,3 +1,5 @@
+//! The words of the command line: which forms are served and which are refused, as tests.
+
 use crate::exchanges::{Exchange, STATUS};
 use crate::served::{NOTHING_FAILS, served};
 use std::alloc::Global;

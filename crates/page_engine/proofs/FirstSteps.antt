@@ -1,26 +1,15 @@
 -- The first values, node by node.
-use Rattle.std.proofs.Common.{◌≡◌, ℕ, zero, suc, ◌+◌, ◌<◌, true, false, List, [], ◌∷◌, ◌++◌, length, take, drop, get_or, refl, sym, ap, ◌∙◌, arith, append-nil}
+use Rattle.std.proofs.Common.{◌≡◌, ℕ, zero, suc, ◌+◌, ◌<◌, true, false, List, [], ◌∷◌, ◌++◌, length, drop, refl, sym, ap, ◌∙◌, arith, append-nil}
 use Rattle.std.specs.Prelude.{if◌then◌else◌, slice_get}
-use Rattle.std.specs.List.{flat_map}
-use Rattle.std.proofs.lemmas.Grind.{flat_map-append}
-use Rattle.std.proofs.lemmas.List.{append_assoc, drop_all, take_more}
+use Rattle.std.proofs.lemmas.List.{append_assoc, drop_all}
 use Rattle.page_tree.specs.DocumentState.{DocumentState}
-use Rattle.page_tree.specs.Rows.{Rows, is_element, is_element_kind, kind_at, content_at, or_shadow_root, change_at, text_of}
+use Rattle.page_tree.specs.Rows.{Rows, is_element, is_element_kind, kind_at, content_at, or_shadow_root, change_at}
 use Rattle.page_tree.specs.declared.content.Content.{Content}
 use Rattle.page_engine.specs.Opening.{for_each}
-use Rattle.page_engine.specs.FirstValues.{first_at, started, started_at, with_firsts, texts_of, or_nothing}
+use Rattle.page_engine.specs.FirstValues.{first_at, started, started_at, with_firsts}
 use Rattle.page_engine.specs.declared.first.First.{First}
 use Rattle.page_engine.proofs.Growth.{for_each-more, length-for_each}
 use Rattle.page_engine.proofs.Filling.{written}
-
--- ---- texts
--- one child more
-pub texts_more : (rows : Rows) (w : ℕ → List ℕ) (before : List ℕ) (kids : List ℕ) (i kid : ℕ) → i < length kids → kid ≡ get_or kids i kid → (before ++ texts_of rows (flat_map w (take i kids))) ++ texts_of rows (w kid) ≡ before ++ texts_of rows (flat_map w (take (i + 1) kids))
-texts_more rows w before kids i kid within read =
-    let joined : flat_map w (take (i + 1) kids) ≡ flat_map w (take i kids) ++ w kid =
-    ap (flat_map w) (take_more kids i kid within) ∙ flat_map-append w (take i kids) (get_or kids i kid ∷ []) ∙ ap (λ xs. flat_map w (take i kids) ++ xs) (append-nil (w (get_or kids i kid)) ∙ ap w (sym read)) in
-    append_assoc before (texts_of rows (flat_map w (take i kids))) (texts_of rows (w kid))
-    ∙ ap (λ xs. before ++ xs) (sym (flat_map-append (λ m. or_nothing (text_of rows m)) (flat_map w (take i kids)) (w kid)) ∙ ap (texts_of rows) (sym joined))
 
 -- ---- one node
 started_kind : (first : First) (n : ℕ) (xs : List Content) → is_element_kind (kind_at xs n) ≡ true → change_at n (started first) xs ≡ change_at n (λ c. record c { value = first.value; checked = first.checked }) xs

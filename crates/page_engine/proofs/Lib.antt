@@ -1,7 +1,6 @@
 pub mod Absent
 pub mod Fits
 pub mod Runs
-pub mod AsciiTexts
 pub mod LineTexts
 pub mod Growth
 pub mod BareRows

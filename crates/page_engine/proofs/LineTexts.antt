@@ -9,7 +9,7 @@ use Rattle.std.proofs.lemmas.List.{append_assoc}
 use Rattle.page_engine.specs.Lines.{kind_name, head_of, place_text}
 use Rattle.page_engine.specs.declared.event.EventKind.{EventKind}
 use Rattle.page_engine.specs.declared.event.EventKind.TheVariants.{PointerMove, PointerDown, PointerUp, Click, KeyDown, KeyUp, Input, Change, Focus, Blur, Submit, Reset}
-use Rattle.page_engine.proofs.AsciiTexts.{is_ascii, ascii_text}
+use Rattle.wd_json.proofs.Texts.{is_ascii, ascii_text}
 
 named : (kind : EventKind) → list_all is_ascii (kind_name kind) ≡ true
 named PointerMove = refl

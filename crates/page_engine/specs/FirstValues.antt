@@ -1,29 +1,16 @@
 -- The value and the checked state that each node has when its page is opened.
 use Rattle.std.specs.Prelude.{ℕ, Bool, false, ◌||◌, List, [], Option, Some, None, length, is_some, codes, if◌then◌else◌}
-use Rattle.std.specs.List.{flat_map}
 use Rattle.std.specs.Str.{bytes_eq}
-use Rattle.page_tree.specs.Places.{walk, max_depth}
-use Rattle.page_tree.specs.Rows.{Rows, is_element, is_element_kind, tag_of, text_of, attribute_of, content_at}
+use Rattle.page_tree.specs.Rows.{Rows, is_element, is_element_kind, tag_of, attribute_of, content_at}
+use Rattle.page_tree.specs.Texts.{texts_below, or_nothing}
 use Rattle.page_tree.specs.declared.content.Content.{Content}
 use Rattle.page_engine.specs.Opening.{for_each}
 use Rattle.page_engine.specs.declared.first.First.{First}
-
-abbrev pub or_nothing : Option (List ℕ) → List ℕ
-or_nothing None = []
-or_nothing (Some text) = text
 
 -- an attribute or a tag that is there and is this text
 abbrev pub has_text : List ℕ → Option (List ℕ) → Bool
 has_text text None = false
 has_text text (Some other) = bytes_eq other text
-
--- the texts among some nodes, joined
-abbrev pub texts_of : Rows → List ℕ → List ℕ
-texts_of rows nodes = flat_map (λ m. or_nothing (text_of rows m)) nodes
-
--- all texts that children reach from an element, joined in document order
-abbrev pub texts_below : Rows → ℕ → List ℕ
-texts_below rows n = texts_of rows (walk max_depth rows.kids n)
 
 -- `contenteditable` is empty or `true`
 abbrev pub is_editable_content : Rows → ℕ → Bool

@@ -1,3 +1,5 @@
+//! When effects take place, and how the timers that they make are numbered.
+
 /// When effects take place, and the number of the first timer that they may make.
 #[derive(Clone, Copy, Debug, PartialEq, Eq)]
 pub struct At {

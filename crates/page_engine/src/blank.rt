@@ -1,3 +1,5 @@
+//! The page `about:blank`.
+
 ghost use Rattle.std.specs.Prelude.{◌≡◌, None, IfOk};
 ghost use Rattle.page_engine.specs.Blank.{blank_elements, blank_page};
 ghost use Rattle.page_engine.specs.Pages.{IsLawfulPage};

@@ -1,3 +1,5 @@
+//! A page's answers to scripts: results made of cells, delays and effects.
+
 use crate::effect::EffectList;
 use wd_json::{WdList, WdText};
 

@@ -1,3 +1,5 @@
+//! The built-in page, and the bare page and plain element that it is made of.
+
 ghost use Rattle.std.specs.Prelude.{◌≡◌, ◌∷◌, [], ◌++◌, Some, None, codes, pos, IfOk, OnOk};
 ghost use Rattle.std.specs.Str.{IsAscii};
 ghost use Rattle.page_engine.specs.BuiltIn.{an_element, a_text, built_in_head, built_in_heading, built_in_field, built_in_link, built_in_page, built_in_address};

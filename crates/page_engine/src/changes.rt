@@ -1,3 +1,5 @@
+//! Changes of a document that leave it as it is where they don't apply.
+
 ghost use Rattle.std.specs.Prelude.{◌≡◌, ◌<◌, true, false, OnOk};
 ghost use Rattle.std.specs.Str.{chars};
 ghost use Rattle.std.specs.Option.{option_copied, option_map};

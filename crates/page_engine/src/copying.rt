@@ -1,3 +1,5 @@
+//! Equal copies of effects and handlers.
+
 ghost use Rattle.std.specs.Prelude.{◌≡◌, map, IfOk};
 
 use crate::effect::{Effect, EffectList};

@@ -1,3 +1,5 @@
+//! The dispatch of an event: its line in the log, its path, and the handlers that run on it.
+
 ghost use Rattle.std.specs.Prelude.{◌≡◌, ◌≤◌, [], false, if◌then◌else◌, IfOk, OnOk};
 ghost use Rattle.page_tree.specs.Places.{lineage, up_of};
 ghost use Rattle.waits.specs.Moments.{last_moment};
@@ -17,15 +19,12 @@ use crate::outcome::Outcome;
 use crate::page_def::HandlerList;
 use crate::parts::Parts;
 use crate::place::ANYWHERE;
-use page_tree::Document;
+use page_tree::{Document, MAX_DEPTH};
 use std::alloc::Global;
 use wd_json::{Memory, NodeId, TextList, WdText};
 
 /// How many lines a log keeps.
 const MAX_LINES: usize = 10_000;
-
-/// No node stands deeper.
-const MAX_DEPTH: usize = 200;
 
 /// Dispatches an event: its line is logged, and the handlers on its path run.
 pub fn dispatch(

@@ -1,3 +1,5 @@
+//! When a timer is due, and its number.
+
 /// When a timer is due, and its number. Of two timers the one with the lesser moment runs first, and
 /// at one moment the one with the lesser number.
 #[derive(Clone, Copy, Debug, PartialEq, Eq)]

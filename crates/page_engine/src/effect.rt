@@ -1,3 +1,5 @@
+//! The effects of handlers, timers, scripts and prompts, and the prompts that they ask for.
+
 use page_tree::PixelBox;
 use wd_json::{WdList, WdText};
 

@@ -1,3 +1,5 @@
+//! What effects do, in order: changes, timers, and what is asked of the world around the page.
+
 ghost use Rattle.std.specs.Prelude.{◌≡◌, ◌≤◌, true, false, OnOk};
 ghost use Rattle.waits.specs.Moments.{last_moment};
 ghost use Rattle.page_engine.specs.Effects.{effect_on, effects_on, asking, going, opening, starting, has_timer};

@@ -1,3 +1,5 @@
+//! The events that a page can handle, by their types.
+
 ghost use Rattle.std.specs.Prelude.{◌≡◌};
 ghost use Rattle.page_engine.specs.Dispatch.{kind_of, target_of, stays_at_target};
 ghost use Rattle.page_engine.specs.Kinds.{kind_number, is_same_kind};

@@ -1,3 +1,5 @@
+//! Which effects keep their ranges and may stand where they do.
+
 ghost use Rattle.std.specs.Prelude.{◌≡◌, pos, int_le, ◌&&◌};
 ghost use Rattle.page_engine.specs.Fitting.{anywhere, is_within, is_wait, is_layer, is_box, is_box_or_none, fits_at, fit_at};
 

@@ -1,3 +1,5 @@
+//! The lines of a page's log: those of events and of prompts that are closed.
+
 ghost use Rattle.std.specs.Prelude.{◌≡◌, ◌++◌, codes, IfOk};
 ghost use Rattle.std.specs.Fmt.{decimal};
 ghost use Rattle.page_engine.specs.Closing.{closing_line};
@@ -5,7 +7,6 @@ ghost use Rattle.page_engine.specs.Lines.{line, head_of, place_text};
 
 use crate::effect::Prompt;
 use crate::event::{Event, EventKind};
-use crate::values::push;
 use std::alloc::Global;
 use wd_json::{Memory, WdText};
 
@@ -78,7 +79,7 @@ pub fn closing_line(alloc: Global, prompt: &Prompt, accepted: bool) -> Result<Wd
 fn accept_line(alloc: Global, answer: &WdText) -> Result<WdText, Memory>
     ensures { IfOk result (λ text. text ≡ codes "accept " ++ answer.now) }
 {
-    let mut text = String::from_str(alloc, "accept ")?;
-    push(&mut text, answer.as_str())?;
-    WdText::of(alloc, text.as_str())
+    let mut text = WdText::of(alloc, "accept ")?;
+    text.extend(answer.as_str())?;
+    Ok(text)
 }

@@ -1,3 +1,5 @@
+//! The document that the nodes of a definition spell, before they have their first values.
+
 ghost use Rattle.std.specs.Prelude.{◌≡◌, ◌<◌, ◌++◌, ◌∷◌, [], ◌^◌, ◌-◌, true, false, Some, None, length, IfSome, IfOk, OnOk};
 ghost use Rattle.page_tree.specs.Rows.{count, is_element, is_shadow, is_text, with_content, with_attribute, grown, hosting, max_nodes};
 ghost use Rattle.page_engine.specs.Nodes.{AreNodes, is_node, is_root_def};

@@ -1,3 +1,5 @@
+//! What a page asks of the world around it, and how many timers were made.
+
 ghost use Rattle.std.specs.Prelude.{◌≡◌};
 ghost use Rattle.page_engine.specs.Scene.{nothing_asked};
 

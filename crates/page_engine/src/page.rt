@@ -1,3 +1,5 @@
+//! An open page, and what effects, events, timers and closed prompts do to it.
+
 ghost use Rattle.std.specs.Prelude.{◌≡◌, ◌+◌, ◌≤◌, ◌<◌, [], true, false, length, IfOk, OnOk, OnErr};
 ghost use Rattle.waits.specs.Moments.{last_moment};
 ghost use Rattle.page_engine.specs.Closing.{prompt_closed};

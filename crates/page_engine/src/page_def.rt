@@ -1,3 +1,5 @@
+//! A page as a file spells it: its nodes, handlers, timers and loading times.
+
 use crate::book::Book;
 use crate::effect::EffectList;
 use crate::event::EventKind;

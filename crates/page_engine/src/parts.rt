@@ -1,3 +1,5 @@
+//! What of a page events, timers and scripts change.
+
 use crate::timers::Timers;
 use page_tree::Document;
 use std::alloc::Global;

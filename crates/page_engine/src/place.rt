@@ -1,3 +1,5 @@
+//! What may stand in a list of effects, by where the list stands.
+
 /// What may stand in a list of effects, by where the list stands: an `after`, a prompt.
 #[derive(Clone, Copy, Debug, PartialEq, Eq)]
 pub struct Place {

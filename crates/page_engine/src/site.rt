@@ -1,7 +1,9 @@
+//! The pages of a site, found by their addresses, and the built-in site.
+
 ghost use Rattle.std.specs.Prelude.{◌≡◌, ◌<◌, length, IfSome, IfOk};
 ghost use Rattle.std.specs.Str.{chars};
 ghost use Rattle.page_engine.specs.BuiltIn.{built_in_site};
-ghost use Rattle.page_engine.specs.Sites.{IsLawfulSite, has_address, page_at};
+ghost use Rattle.page_engine.specs.Sites.{IsLawfulSite, page_at};
 
 use crate::built_in::built_in_page;
 use crate::page_def::PageDef;
@@ -48,12 +50,5 @@ fn place_of(pages: &[PageDef], address: &str) -> Option<usize>
     ensures place { result ≡ page_at (chars address.now) pages.now }
     ensures within { IfSome result (λ place. place < length pages.now) }
 {
-    pages.iter().position(|page| has_address(page, address))
-}
-
-/// Whether the page has that address.
-fn has_address(page: &PageDef, address: &str) -> bool
-    ensures { result ≡ has_address (chars address.now) page.now }
-{
-    page.address.as_str() == address
+    pages.iter().position(|page| page.address.is(address))
 }

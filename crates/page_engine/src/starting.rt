@@ -1,3 +1,5 @@
+//! The timers that a page starts with, as pending ones.
+
 ghost use Rattle.std.specs.Prelude.{◌≡◌, ◌≤◌, ◌+◌, [], length, IfOk, if◌then◌else◌};
 ghost use Rattle.waits.specs.Moments.{last_moment};
 ghost use Rattle.page_engine.specs.Opening.{with_timers};

@@ -1,3 +1,5 @@
+//! Where an address leads in a site.
+
 /// Where an address leads in a site: to `about:blank`, or to the page at this place.
 #[derive(Clone, Copy, Debug, PartialEq, Eq)]
 pub enum Target {

@@ -1,3 +1,5 @@
+//! The pending timers of a page, in the order in which they run.
+
 ghost use Rattle.std.specs.Prelude.{◌≡◌, [], ◌∷◌, length, IfSome, IfNone, OnOk};
 ghost use Rattle.page_engine.specs.Timers.{AreInOrder, first_due, with_timer};
 

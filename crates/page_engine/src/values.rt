@@ -1,16 +1,15 @@
-ghost use Rattle.std.specs.Prelude.{◌≡◌, ◌<◌, ◌++◌, false, is_some, length, string_bytes, IfOk, OnOk};
-ghost use Rattle.std.specs.Str.{chars, bytes_eq, IsAscii};
-ghost use Rattle.page_tree.specs.Places.{walk};
-ghost use Rattle.page_tree.specs.Rows.{count, attribute_of, text_of, tag_of, is_element, with_content};
-ghost use Rattle.page_engine.specs.FirstValues.{first_at, first_value, first_checked, firsts_of, has_text, is_editable_content, texts_below, texts_of, or_nothing, started, with_firsts};
+//! The first value and checked state of each node.
+
+ghost use Rattle.std.specs.Prelude.{◌≡◌, ◌<◌, false, is_some, IfOk, OnOk};
+ghost use Rattle.std.specs.Str.{IsAscii};
+ghost use Rattle.page_tree.specs.Rows.{count, attribute_of, tag_of, with_content};
+ghost use Rattle.page_tree.specs.Texts.{or_nothing};
+ghost use Rattle.page_engine.specs.FirstValues.{first_at, first_value, first_checked, firsts_of, has_text, is_editable_content, started, with_firsts};
 
 use crate::first::First;
 use page_tree::Document;
 use std::alloc::Global;
-use wd_json::{Memory, NodeId, WdText};
-
-/// How deep a node may stand.
-const MAX_DEPTH: usize = 200;
+use wd_json::{Memory, NodeId, WdText, is_same};
 
 /// The first value and checked state of each node.
 pub fn firsts(alloc: Global, document: &Document) -> Result<Vec<First>, Memory>
@@ -53,7 +52,7 @@ fn value(alloc: Global, document: &Document, node: NodeId) -> Result<WdText, Mem
         return attribute_text(alloc, document, node, "value");
     }
     if has_tag(document, node, "textarea") || is_editable(document, node) {
-        return texts_below(alloc, document, node);
+        return document.texts_below(node);
     }
     Ok(WdText::new(alloc))
 }
@@ -130,67 +129,6 @@ fn has_tag(document: &Document, node: NodeId, tag: &str) -> bool
         Some(found) => is_same(found, tag),
         None => false,
     }
-}
-
-/// Whether the characters are those of this text.
-fn is_same(found: &str, text: &str) -> bool
-    requires { IsAscii text.now }
-    ensures { result ≡ bytes_eq (chars found.now) text.now }
-{
-    found == text
-}
-
-/// All texts below a node, joined in document order.
-fn texts_below(alloc: Global, document: &Document, node: NodeId) -> Result<WdText, Memory>
-    requires alive { document.now.spent ≡ false }
-    requires node_in { node < count document.now.rows }
-    ensures { IfOk result (λ text. text ≡ texts_below document.now.rows node) }
-{
-    let mut joined = String::new(alloc);
-    add_texts(document, node, MAX_DEPTH, &mut joined)?;
-    WdText::of(alloc, joined.as_str())
-}
-
-/// Adds the texts of a node and of those below it, so many levels deep.
-fn add_texts(
-    document: &Document,
-    node: NodeId,
-    steps: usize,
-    joined: &mut String,
-) -> Result<(), Memory>
-    requires alive { document.now.spent ≡ false }
-    requires node_in { node < count document.now.rows }
-    ensures { OnOk result (chars (string_bytes joined.new) ≡ chars (string_bytes joined.old) ++ texts_of document.now.rows (walk steps document.now.rows.kids node)) }
-{
-    if steps == 0 {
-        return Ok(());
-    }
-    add_text(document, node, joined)?;
-    let kids = document.children(node)?;
-    for kid in kids.as_slice() {
-        add_texts(document, *kid, steps - 1, joined)?;
-    }
-    Ok(())
-}
-
-/// Adds the characters of a text.
-fn add_text(document: &Document, node: NodeId, joined: &mut String) -> Result<(), Memory>
-    requires alive { document.now.spent ≡ false }
-    requires node_in { node < count document.now.rows }
-    ensures { OnOk result (chars (string_bytes joined.new) ≡ chars (string_bytes joined.old) ++ or_nothing (text_of document.now.rows node)) }
-{
-    match document.text(node) {
-        Some(text) => push(joined, text),
-        None => Ok(()),
-    }
-}
-
-/// Adds a text.
-pub fn push(joined: &mut String, text: &str) -> Result<(), Memory>
-    ensures { OnOk result (chars (string_bytes joined.new) ≡ chars (string_bytes joined.old) ++ chars text.now) }
-{
-    joined.push_str(text)?;
-    Ok(())
 }
 
 /// Gives each element its first value and checked state.

@@ -8,8 +8,8 @@ use Rattle.page_engine.specs.Nodes.{is_node, is_host, is_parent, is_shadow_of, m
 use Rattle.page_engine.specs.declared.page_def.NodeDef.{NodeDef}
 use Rattle.page_engine.specs.declared.page_def.NodeKind.{NodeKind}
 use Rattle.page_engine.specs.declared.page_def.NodeKind.TheVariants.{Element, Chars, Shadow}
-use Rattle.page_file.proofs.EachRead.{first_of}
-use Rattle.page_file.specs.NodeFaults.{depth_after, is_deep}
+use Rattle.page_file.proofs.Tests.{first_of}
+use Rattle.page_file.specs.NodeRows.{depth_after, is_deep}
 use Rattle.page_tree.proofs.Chains.{chain-suc, chain-zero}
 use Rattle.page_tree.specs.Places.{up_of, onwards, chain, depth, max_depth, all_shallow}
 

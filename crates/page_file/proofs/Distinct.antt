@@ -1,6 +1,7 @@
 -- The names of an object's members differ, and so do the attributes and the types of events that they name.
-use Rattle.std.proofs.Common.{◌≡◌, ℕ, Bool, true, false, ◌&&◌, List, [], ◌∷◌, Option, Some, None, Less, nat_cmp, ◌||◌, map, refl, sym, ap, ◌∙◌}
-use Rattle.std.specs.Prelude.{not, if◌then◌else◌, slice_index_or}
+use Rattle.std.proofs.Common.{◌≡◌, ℕ, Bool, true, false, ◌&&◌, List, [], ◌∷◌, Option, Some, None, Less, nat_cmp, map, refl, sym, ap, ◌∙◌}
+use Rattle.std.proofs.lemmas.Bool.{false_from_ne_true, or_from}
+use Rattle.std.specs.Prelude.{Result, Ok, Err, IfOk, IfSome, not, if◌then◌else◌, slice_index_or}
 use Rattle.std.proofs.lemmas.Bool.Decides.{Decides-eqb}
 use Rattle.std.proofs.lemmas.Map.Text.{is_eq-slice_cmp}
 use Rattle.std.proofs.lemmas.Slice.Eq.{bytes_eq-Decides}
@@ -19,24 +20,13 @@ use Rattle.page_engine.specs.Nodes.{are_attributes, are_handlers}
 use Rattle.page_engine.specs.declared.effect.Effect.{Effect}
 use Rattle.page_engine.specs.declared.event.EventKind.{EventKind}
 use Rattle.page_engine.specs.declared.event.EventKind.TheVariants.{PointerMove, PointerDown, PointerUp, Click, KeyDown, KeyUp, Input, Change, Focus, Blur, Submit, Reset}
-use Rattle.page_file.proofs.EachRead.{first_of, second_of}
+use Rattle.page_file.proofs.Tests.{some_is, first_of, second_of}
 use Rattle.page_file.specs.Members.{Members, each_of}
 use Rattle.page_file.specs.NodeValues.{Attribute, attribute_of, Handler, handler_of, kind_named, all_kinds}
 use Rattle.page_file.specs.Spelled.{effects_in}
 use Rattle.page_file.specs.Values.{text_of}
-use Rattle.wd_json.specs.Keys.{text_cmp}
+use Rattle.wd_json.specs.Keys.{text_cmp, KeysRise}
 use Rattle.wd_json.specs.declared.value.Json.{Json}
-
-some_is : {X : Type 0} (x y : X) → Some x ≡ Some y → x ≡ y
-some_is x y e = cc
-
-not_true : (b : Bool) → (b ≡ true → ⊥) → b ≡ false
-not_true true h = absurd (h refl)
-not_true false h = refl
-
-both_false : (b c : Bool) → b ≡ false → c ≡ false → (b || c) ≡ false
-both_false true c p q = cc
-both_false false c p q = q
 
 three : (a b c : Bool) → a ≡ true → b ≡ false → c ≡ true → (a && (not b && c)) ≡ true
 three true true c p q r = cc
@@ -45,7 +35,7 @@ three false b c p q r = p
 
 -- a text is not below itself
 below_differs : (a b : List ℕ) → text_cmp a b ≡ Less → bytes_eq b a ≡ false
-below_differs a b h = not_true (bytes_eq b a) (λ same.
+below_differs a b h = false_from_ne_true (bytes_eq b a) (λ same.
     let equal : b ≡ a = (bytes_eq-Decides b a).0 same in
     let at_a : slice_cmp nat_cmp (encode_utf8_all a) (encode_utf8_all a) ≡ Less = ap (text_cmp a) (sym equal) ∙ h in
     let itself : bytes_eq (encode_utf8_all a) (encode_utf8_all a) ≡ true = (bytes_eq-Decides (encode_utf8_all a) (encode_utf8_all a)).1 refl in
@@ -79,7 +69,7 @@ none_named k (m ∷ ms) found h e = at (λ rest g. none_named k ms rest h.1 g) (
     at later (Some a) (Some rest) f g e =
         let differ : bytes_eq a.0 k ≡ false = ap (λ (x : List ℕ). bytes_eq x k) (attribute_parts m a f).1 ∙ below_differs k m.0 h.0 in
         ap (list_any (λ (other : Attribute). bytes_eq other.0 k)) (sym (some_is (a ∷ rest) found e))
-        ∙ both_false (bytes_eq a.0 k) (list_any (λ other. bytes_eq other.0 k) rest) differ (later rest g)
+        ∙ or_from (bytes_eq a.0 k) (list_any (λ other. bytes_eq other.0 k) rest) differ (later rest g)
 
 pub attributes_good : (ms : Members) (found : List Attribute) → IsStrictlySortedBy text_cmp (keys_of ms) → each_of attribute_of ms ≡ Some found → are_attributes found ≡ true
 unfolding IsStrictlySortedBy
@@ -126,7 +116,7 @@ by_number Submit = refl
 by_number Reset = refl
 
 kinds_differ : (k l : EventKind) (a b : List ℕ) → kind_name k ≡ encode_utf8_all a → kind_name l ≡ encode_utf8_all b → text_cmp a b ≡ Less → is_same_kind l k ≡ false
-kinds_differ k l a b at_a at_b h = not_true (is_same_kind l k) (λ same.
+kinds_differ k l a b at_a at_b h = false_from_ne_true (is_same_kind l k) (λ same.
     let number : kind_number l ≡ kind_number k = (Decides-eqb (kind_number l) (kind_number k)).0 same in
     let names : kind_name l ≡ kind_name k = by_number l ∙ ap (λ n. slice_index_or (map kind_name all_kinds) n []) number ∙ sym (by_number k) in
     let bytes : encode_utf8_all b ≡ encode_utf8_all a = sym at_b ∙ names ∙ at_a in
@@ -158,7 +148,7 @@ none_of_kind k a (m ∷ ms) hs n h e = at (λ rest g. none_of_kind k a ms rest n
     at later (Some x) None f g e = cc
     at later (Some x) (Some rest) f g e =
         ap (list_any (λ (other : Handler). is_same_kind other.0 k)) (sym (some_is (x ∷ rest) hs e))
-        ∙ both_false (is_same_kind x.0 k) (list_any (λ other. is_same_kind other.0 k) rest) (kinds_differ k x.0 a m.0 n (handler_name m x f) h.0) (later rest g)
+        ∙ or_from (is_same_kind x.0 k) (list_any (λ other. is_same_kind other.0 k) rest) (kinds_differ k x.0 a m.0 n (handler_name m x f) h.0) (later rest g)
 
 pub handlers_good : (ms : Members) (hs : List Handler) → IsStrictlySortedBy text_cmp (keys_of ms) → each_of handler_of ms ≡ Some hs → list_all (λ h. fit_at anywhere h.1) hs ≡ true → are_handlers hs ≡ true
 unfolding IsStrictlySortedBy
@@ -175,3 +165,16 @@ handlers_good (m ∷ ms) hs h e fit = at (λ rest g fit. handlers_good ms rest h
         ap are_handlers (sym (some_is (x ∷ rest) hs e))
         ∙ three (fit_at anywhere x.1) (list_any (λ other. is_same_kind other.0 x.0) rest) (are_handlers rest) (first_of (fit_at anywhere x.1) _ fits)
         (none_of_kind x.0 m.0 ms rest (handler_name m x f) h.0 g) (later rest g (second_of (fit_at anywhere x.1) _ fits))
+
+-- ---- what reading them answers
+
+pub attributes_kept : {E : Type 0} (ms : Members) (r : Result (Option (List Attribute)) E) → KeysRise ms → IfOk r (λ a. a ≡ each_of attribute_of ms) → IfOk r (λ a. IfSome a (λ a. are_attributes a ≡ true))
+attributes_kept ms (Ok (Some read)) rise same = attributes_good ms read rise (sym same)
+attributes_kept ms (Ok None) rise same = tt
+attributes_kept ms (Err e) rise same = tt
+
+pub handlers_kept : {E : Type 0} (ms : Members) (r : Result (Option (List Handler)) E) → KeysRise ms → IfOk r (λ hs. hs ≡ each_of handler_of ms) → IfOk r (λ hs. IfSome hs (λ hs. list_all (λ h. fit_at anywhere h.1) hs ≡ true))
+    → IfOk r (λ hs. IfSome hs (λ hs. are_handlers hs ≡ true))
+handlers_kept ms (Ok (Some read)) rise same fit = handlers_good ms read rise (sym same) fit
+handlers_kept ms (Ok None) rise same fit = tt
+handlers_kept ms (Err e) rise same fit = tt

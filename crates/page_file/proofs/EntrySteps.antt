@@ -1,28 +1,21 @@
--- One entry more: that its address is new, its place in the index, and what is wrong so far.
-use Rattle.std.proofs.Common.{◌≡◌, ◌≢◌, ◌⊎◌, inl, inr, ℕ, suc, ◌+◌, ◌<◌, ◌≤◌, Bool, true, false, cond, List, [], ◌∷◌, ◌++◌, Option, Some, None, length, take, get_or, refl, sym, ap, ◌∙◌, arith}
-use Rattle.std.specs.Prelude.{◌&&◌, ◌||◌, not, nat_lt, is_some, slice_get, String, if◌then◌else◌}
-use Rattle.std.specs.Option.{option_and_then}
+-- The addresses of entries: that they differ, and their places in the index.
+use Rattle.std.proofs.Common.{◌≡◌, ℕ, suc, ◌<◌, ◌≤◌, Bool, true, false, cond, List, [], ◌∷◌, ◌++◌, Some, None, Ok, Err, length, get_or, refl, sym, ap, ◌∙◌, arith}
+use Rattle.std.proofs.lemmas.Bool.{and_parts, or_parts}
+use Rattle.std.specs.Prelude.{not, nat_lt, is_some, String, if◌then◌else◌}
 use Rattle.std.specs.List.{list_any, position, position_or_len}
 use Rattle.std.specs.HashMap.{HashMap, get_by_text}
 use Rattle.std.specs.Map.{update}
 use Rattle.std.specs.Str.{bytes_eq}
 use Rattle.std.specs.Cmp.Lexicographic.{bytes_decides, nat_list_eq_equiv}
-use Rattle.std.proofs.lemmas.Bool.{cases_eq}
-use Rattle.std.proofs.lemmas.List.{length_push, take_more, take_all}
+use Rattle.std.proofs.lemmas.Bool.Decides.{nat_tests}
+use Rattle.std.proofs.lemmas.List.{length_push}
 use Rattle.std.proofs.lemmas.List.Sums.{fails_before_first}
-use Rattle.std.proofs.lemmas.Option.{get_or_from_slice_get}
 use Rattle.std.proofs.lemmas.List.Folds.{list_any-append, position_or_len_push}
-use Rattle.page_file.proofs.EachMore.{each_push, each_filter}
-use Rattle.page_file.proofs.FirstFaults.{first_some, first_none}
-use Rattle.page_file.specs.EntriesRead.{IsNextEntry, IsNextEntryFault, AreEntriesOf, IsEntriesCause}
-use Rattle.page_file.specs.First.{first_fault}
+use Rattle.page_file.proofs.Rows.{kept_if}
 use Rattle.page_file.specs.Index.{IsIndexOf}
-use Rattle.page_file.specs.Listings.{entry_of, names_page, entries_differ, is_bad_entry, entry_fault}
-use Rattle.page_file.specs.Members.{each_of}
+use Rattle.page_file.specs.Listings.{entry_of, names_page, next_entry, entries_differ}
+use Rattle.page_file.specs.Rows.{or_fault}
 use Rattle.page_file.specs.declared.listing.Entry.{Entry}
-use Rattle.page_file.specs.declared.page_fault.PageFault.{PageFault}
-use Rattle.page_file.specs.declared.page_fault.PageFault.TheVariants.{Bad, Memory}
-use Rattle.page_file.specs.declared.why.Why.{Why}
 use Rattle.page_file.specs.declared.why.Why.TheVariants.{Address}
 use Rattle.wd_json.specs.declared.value.Json.{Json}
 
@@ -30,13 +23,14 @@ module _ {X : Type 0} (p : X → Bool) where
   pub position_keep : (xs : List X) (y : X) → p y ≡ false → position p (xs ++ y ∷ []) ≡ position p xs
   position_keep xs y e = grind (arith, e, position_or_len_push p xs y, length_push xs y)
 
-or_parts : (b c : Bool) → (b || c) ≡ false → (b ≡ false) × (c ≡ false)
-or_parts true c e = absurd (let f : true ≡ false = e in cc)
-or_parts false c e = (refl, e)
+module _ {X : Type 0} (p : X → Bool) (xs : List X) where
+  at_place : (n k : ℕ) (b : Bool) → nat_lt n (length xs) ≡ b → cond b (Some n) None ≡ Some k → k < length xs
+  at_place n k true is h = let same : n ≡ k = cc in grind (arith, nat_tests, is, same)
+  at_place n k false is h = cc
 
-and_parts : (b c : Bool) → (b && c) ≡ true → (b ≡ true) × (c ≡ true)
-and_parts true c e = (refl, e)
-and_parts false c e = absurd (let f : false ≡ true = e in cc)
+  -- the place of the first is one in the list
+  pub place_within : (k : ℕ) → position p xs ≡ Some k → k < length xs
+  place_within k found = at_place (position_or_len p xs) k (nat_lt (position_or_len p xs) (length xs)) refl found
 
 -- an address that no entry has may stand behind them
 pub differ_more : (entries : List Entry) (e : Entry) → entries_differ entries ≡ true → list_any (names_page e.address) entries ≡ false → entries_differ (entries ++ e ∷ []) ≡ true
@@ -97,65 +91,14 @@ some_at entries address there = at (list_any (names_page address) entries) refl
     at true e = e
     at false e = absurd (let f : false ≡ true = sym (ap is_some (no_place (names_page address) entries e)) ∙ there in cc)
 
-module _ {Y S : Type 0} (m : HashMap (String Y) ℕ S) where
+module _ {Y S : Type 0} (m : HashMap (String Y) ℕ S) (entries : List Entry) (e : Entry) (v : Json) (b : List ℕ) (index : IsIndexOf entries m) (spelled : entry_of v ≡ Some e) (is : b ≡ e.address) where
+  by_test : (c : Bool) → list_any (names_page e.address) entries ≡ c → next_entry entries v ≡ or_fault Address (if not c then Some e else None)
+  by_test c has = kept_if (λ (entry : Entry). not (list_any (names_page entry.address) entries)) Address (entry_of v) e (not c) spelled (ap not has)
+
   -- the address of an entry, as the index has it, is that of one of these
-  pub known_entry : (entries : List Entry) (e : Entry) (v : Json) (b : List ℕ) → IsIndexOf entries m → entry_of v ≡ Some e → b ≡ e.address → is_some (get_by_text m b) ≡ true → is_bad_entry entries (entry_of v) ≡ true
-  known_entry entries e v b index spelled is there =
-      ap (is_bad_entry entries) spelled ∙ some_at entries e.address (ap (λ q. is_some (position (names_page q) entries)) (sym is) ∙ ap is_some (sym (index b)) ∙ there)
+  pub known_entry : is_some (get_by_text m b) ≡ true → next_entry entries v ≡ Err Address
+  known_entry there = by_test true (some_at entries e.address (ap (λ q. is_some (position (names_page q) entries)) (sym is) ∙ ap is_some (sym (index b)) ∙ there))
 
   -- it is that of none of these
-  pub new_entry : (entries : List Entry) (e : Entry) (v : Json) (b : List ℕ) → IsIndexOf entries m → entry_of v ≡ Some e → b ≡ e.address → get_by_text m b ≡ None → IsNextEntry entries v e
-  new_entry entries e v b index spelled is none =
-      record { spelled = spelled; new = no_entry (names_page e.address) entries (ap (λ q. position (names_page q) entries) (sym is) ∙ sym (index b) ∙ none) }
-
--- the entries that the first values spell, and that nothing is wrong with these values
-pub record AreEntriesRead {Y S : Type 0} (values : List Json) (i : ℕ) (entries : List Entry) (places : HashMap (String Y) ℕ S) : Type 0 where
-  pub spelled : each_of entry_of (take i values) ≡ Some entries
-  pub count : length entries ≡ i
-  pub differ : entries_differ entries ≡ true
-  pub clean : (k : ℕ) → k < i → entry_fault values k ≡ None
-  pub index : IsIndexOf entries places
-
-abbrev fault_with : List Entry → Option Entry → Option Why
-fault_with earlier found = if is_bad_entry earlier found then Some Address else None
-
-module _ (values : List Json) (i : ℕ) (v : Json) (within : i < length values) (here : slice_get values i ≡ Some v) where
-  fault_here : (entries : List Entry) → each_of entry_of (take i values) ≡ Some entries → entry_fault values i ≡ fault_with entries (entry_of v)
-  fault_here entries spelled =
-      ap (λ earlier. fault_with earlier (option_and_then entry_of (slice_get values i))) (each_filter entry_of (take i values) entries spelled)
-      ∙ ap (λ (o : Option Json). fault_with entries (option_and_then entry_of o)) here
-
-  is_read : get_or values i v ≡ v
-  is_read = get_or_from_slice_get values i v v here
-
-  pub entry_more : {Y S : Type 0} (old new : HashMap (String Y) ℕ S) (entries : List Entry) (e : Entry) → AreEntriesRead values i entries old → IsNextEntry entries v e → IsIndexOf (entries ++ e ∷ []) new → AreEntriesRead values (i + 1) (entries ++ e ∷ []) new
-  entry_more old new entries e read next index = record {
-    spelled = ap (each_of entry_of) (take_more values i v within ∙ ap (λ x. take i values ++ x ∷ []) is_read) ∙ each_push entry_of (take i values) v entries e read.spelled next.spelled;
-    count = length_push entries e ∙ ap (λ n. n + 1) read.count;
-    differ = differ_more entries e read.differ next.new;
-    clean = λ k below. at k below (cases_eq k i);
-    index = index;
-  }
-    where
-      clean_here : entry_fault values i ≡ None
-      clean_here = fault_here entries read.spelled ∙ ap (fault_with entries) next.spelled ∙ ap (λ b. if b then Some Address else None) next.new
-
-      at : (k : ℕ) → k < i + 1 → (k ≡ i) ⊎ (k ≢ i) → entry_fault values k ≡ None
-      at k below (inl same) = ap (entry_fault values) same ∙ clean_here
-      at k below (inr apart) = read.clean k (grind (arith, apart, below))
-
-  -- the first value at which something is wrong
-  pub entry_cause : {Y S : Type 0} (places : HashMap (String Y) ℕ S) (entries : List Entry) → AreEntriesRead values i entries places → (fault : PageFault) → IsNextEntryFault entries v fault → IsEntriesCause values fault
-  entry_cause places entries read Memory h = tt
-  entry_cause places entries read (Bad row why) h =
-      let found : entry_fault values i ≡ Some Address = fault_here entries read.spelled ∙ ap (λ b. if b then Some Address else None) h.2 in
-      first_some (entry_fault values) (length values) i Address within found read.clean
-      ∙ ap (λ n. Some (n, Address)) (sym (h.0 ∙ read.count)) ∙ ap (λ w. Some (row, w)) (sym h.1)
-
--- all values are read
-pub entries_end : {Y S : Type 0} (places : HashMap (String Y) ℕ S) (values : List Json) (i : ℕ) (entries : List Entry) → AreEntriesRead values i entries places → length values ≤ i → AreEntriesOf values entries
-entries_end places values i entries read past =
-    record { spelled = ap (each_of entry_of) (sym (take_all i values past)) ∙ read.spelled; differ = read.differ }
-
-pub entries_faultless : {Y S : Type 0} (places : HashMap (String Y) ℕ S) (values : List Json) (i : ℕ) (entries : List Entry) → AreEntriesRead values i entries places → length values ≤ i → first_fault (entry_fault values) (length values) ≡ None
-entries_faultless places values i entries read past = first_none (entry_fault values) (length values) (λ k within. read.clean k (omega arith))
+  pub new_entry : get_by_text m b ≡ None → next_entry entries v ≡ Ok e
+  new_entry none = by_test false (no_entry (names_page e.address) entries (ap (λ q. position (names_page q) entries) (sym is) ∙ sym (index b) ∙ none))

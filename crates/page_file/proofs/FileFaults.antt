@@ -1,11 +1,12 @@
 -- What is wrong with one file, by what was read of it.
-use Rattle.std.proofs.Common.{◌≡◌, ◌≢◌, ◌⊎◌, inl, inr, ℕ, ◌+◌, ◌≤◌, Bool, true, false, List, Option, Some, Result, Err, length, refl, sym, ap, subst, ◌∙◌, arith}
-use Rattle.std.specs.Prelude.{◌||◌, nat_lt, IfErr}
+use Rattle.std.proofs.Common.{◌≡◌, ◌≢◌, ◌⊎◌, inl, inr, ℕ, ◌+◌, ◌≤◌, true, false, List, Option, Some, Result, Err, length, refl, sym, ap, subst, ◌∙◌, arith}
+use Rattle.std.proofs.lemmas.Bool.{or_from}
+use Rattle.std.specs.Prelude.{nat_lt, IfErr}
 use Rattle.std.specs.Option.{option_map_or}
 use Rattle.std.proofs.lemmas.Bool.Decides.{nat_tests}
 use Rattle.page_engine.specs.declared.page_def.PageDef.{PageDef}
-use Rattle.page_file.proofs.EachMore.{some_is}
-use Rattle.page_file.specs.First.{Fault}
+use Rattle.page_file.proofs.Tests.{some_is}
+use Rattle.page_file.specs.Rows.{Fault}
 use Rattle.page_file.specs.SiteFiles.{FileMap, file_limit, files_limit, bytes_at, size_at, is_too_long, IsTextOf, IsFileOf, no_value, bad_value, IsBadAt, IsFileFault, IsPagesFault, IsReadCause}
 use Rattle.page_file.specs.declared.listing.Entry.{Entry}
 use Rattle.page_file.specs.declared.site_fault.SiteFault.{SiteFault}
@@ -18,13 +19,9 @@ use Rattle.wd_json.specs.declared.fault.JsonFault.{JsonFault}
 use Rattle.wd_json.specs.declared.fault.JsonFault.TheVariants as json
 use Rattle.wd_json.specs.declared.value.Json.{Json}
 
-both_false : (b c : Bool) → b ≡ false → c ≡ false → (b || c) ≡ false
-both_false true c h k = h
-both_false false c h k = k
-
 -- it doesn't show at this file that files are too long
 pub not_long : (before size : ℕ) → size ≤ file_limit → before + size ≤ files_limit → is_too_long before size ≡ false
-not_long before size short few = both_false (nat_lt 8388608 size) (nat_lt 33554432 (before + size)) (grind (arith, nat_tests)) (grind (arith, nat_tests))
+not_long before size short few = or_from (nat_lt 8388608 size) (nat_lt 33554432 (before + size)) (grind (arith, nat_tests)) (grind (arith, nat_tests))
 
 pub size_is : (files : FileMap) (name bytes : List ℕ) → bytes_at files name ≡ Some bytes → size_at files name ≡ length bytes
 size_is files name bytes here = ap (λ (o : Option (List ℕ)). option_map_or length o 0) here

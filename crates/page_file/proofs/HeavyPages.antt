@@ -11,7 +11,8 @@ use Rattle.page_engine.specs.Links.{weight, weight_at, weight_here, frames, fram
 use Rattle.page_engine.specs.declared.page_def.PageDef.{PageDef}
 use Rattle.page_engine.specs.declared.target.Target.{Target}
 use Rattle.page_engine.specs.declared.target.Target.TheVariants.{Blank, Page}
-use Rattle.page_file.proofs.EachMore.{parts, some_is}
+use Rattle.page_file.proofs.EachOf.{parts}
+use Rattle.page_file.proofs.Tests.{some_is}
 use Rattle.page_file.specs.Members.{each_of}
 use Rattle.page_file.specs.Weighing.{capped, or_blank, frame_load, page_load, weights, IsLoadOf, AreLoadsFrom, AreLoadsOf, is_heavy}
 use Rattle.page_file.specs.declared.load.Load.{Load}

@@ -1,9 +1,8 @@
 -- Pages all of which are linked and light, or the first that isn't.
-use Rattle.std.proofs.Common.{◌≡◌, ℕ, ◌<◌, Bool, true, false, cond, List, [], ◌∷◌, Option, Some, None, length, refl, sym, ap, ◌∙◌, arith}
-use Rattle.std.specs.Prelude.{not, ◌&&◌, ◌||◌, nat_lt, slice_get}
-use Rattle.std.specs.List.{list_all, list_any, position, position_or_len}
+use Rattle.std.proofs.Common.{◌≡◌, ℕ, Bool, true, false, List, [], ◌∷◌, Option, Some, None, refl, sym, ap, ◌∙◌}
+use Rattle.std.specs.Prelude.{not, ◌&&◌, ◌||◌, slice_get}
+use Rattle.std.specs.List.{list_all, list_any, position}
 use Rattle.std.specs.Option.{option_map, option_and_then}
-use Rattle.std.proofs.lemmas.Bool.Decides.{nat_tests}
 use Rattle.page_engine.specs.Links.{AreLinked, is_linked, is_light}
 use Rattle.page_engine.specs.declared.page_def.PageDef.{PageDef}
 use Rattle.page_file.proofs.EntrySteps.{no_entry}
@@ -11,15 +10,6 @@ use Rattle.page_file.specs.SiteFiles.{first_file}
 use Rattle.page_file.specs.Weighing.{AreLoadsFrom, AreLoadsOf, is_heavy}
 use Rattle.page_file.specs.declared.listing.Entry.{Entry}
 use Rattle.page_file.specs.declared.load.Load.{Load}
-
-module _ {X : Type 0} (p : X → Bool) (xs : List X) where
-  at_place : (n k : ℕ) (b : Bool) → nat_lt n (length xs) ≡ b → cond b (Some n) None ≡ Some k → k < length xs
-  at_place n k true is h = let same : n ≡ k = cc in grind (arith, nat_tests, is, same)
-  at_place n k false is h = cc
-
-  -- the place of the first is one in the list
-  pub place_within : (k : ℕ) → position p xs ≡ Some k → k < length xs
-  place_within k found = at_place (position_or_len p xs) k (nat_lt (position_or_len p xs) (length xs)) refl found
 
 none_fails : {X : Type 0} (p : X → Bool) (xs : List X) → list_any (λ x. not (p x)) xs ≡ false → list_all p xs ≡ true
 none_fails p [] none = refl

@@ -1,28 +1,23 @@
 -- Files that have a first fault spell no site.
-use Rattle.std.proofs.Common.{◌≡◌, ℕ, zero, suc, ◌+◌, ◌≤◌, Bool, true, false, List, [], ◌∷◌, Option, Some, None, length, take, drop, refl, sym, ap, subst, ◌∙◌, arith}
+use Rattle.std.proofs.Common.{◌≡◌, ℕ, zero, suc, ◌+◌, ◌≤◌, Bool, true, false, List, [], ◌∷◌, Option, Some, None, Ok, length, take, drop, refl, sym, ap, subst, ◌∙◌, arith}
 use Rattle.std.specs.Prelude.{not, ◌&&◌, ◌||◌, slice_get}
 use Rattle.std.specs.List.{list_all, list_any, position, sum_by}
 use Rattle.std.specs.Option.{option_map, option_and_then}
+use Rattle.std.specs.Result.{result_err}
 use Rattle.std.proofs.lemmas.List.Sums.{sum-map, sum_by-take-drop}
 use Rattle.std.proofs.lemmas.Option.{slice_get_within, get_or_from_slice_get}
 use Rattle.page_engine.specs.Links.{is_linked, is_light}
 use Rattle.page_engine.specs.declared.page_def.PageDef.{PageDef}
 use Rattle.page_engine.specs.declared.site.Site.{Site}
-use Rattle.page_file.proofs.EachMore.{some_is}
+use Rattle.page_file.proofs.Tests.{some_is}
+use Rattle.page_file.proofs.Rows.{ok_is}
 use Rattle.page_file.proofs.EntrySteps.{no_place}
-use Rattle.page_file.proofs.Faultless.{page_faultless}
 use Rattle.page_file.proofs.FileFaults.{not_long, size_is}
-use Rattle.page_file.proofs.ListingLaw.{listing_is_clean}
 use Rattle.page_file.proofs.PageFiles.{sizes_more}
-use Rattle.page_file.specs.First.{Fault}
-use Rattle.page_file.specs.Listings.{Top, entry_of, listing_fault, IsListingOf}
-use Rattle.page_file.specs.Members.{each_of}
-use Rattle.page_file.specs.NodeFaults.{node_of}
-use Rattle.page_file.specs.PageFaults.{page_fault}
-use Rattle.page_file.specs.PageSpelled.{Parts, IsPageOf}
-use Rattle.page_file.specs.Scripts.{entry_of as script_of}
-use Rattle.page_file.specs.SiteFiles.{FileMap, files_limit, size_at, sizes, is_too_long, IsTextOf, IsFileOf, IsPageFile, ArePageFiles, IsSiteOf, IsWrong, no_value, bad_value, IsFileFault, IsOfFiles, first_file, IsPagesFault, IsFirstFault, of_site, of_entry, of_pages}
-use Rattle.page_file.specs.Timers.{timer_of}
+use Rattle.page_file.specs.Listings.{listing_of}
+use Rattle.page_file.specs.PageSpelled.{page_of}
+use Rattle.page_file.specs.Rows.{Fault}
+use Rattle.page_file.specs.SiteFiles.{FileMap, files_limit, size_at, sizes, is_too_long, IsTextOf, IsFileOf, IsPageFile, ArePageFiles, IsSiteOf, IsWrong, no_value, bad_value, listing_fault, page_fault, IsFileFault, IsOfFiles, first_file, IsPagesFault, IsFirstFault, of_site, of_entry, of_pages}
 use Rattle.page_file.specs.declared.listing.Entry.{Entry}
 use Rattle.page_file.specs.declared.listing.Listing.{Listing}
 use Rattle.page_file.specs.declared.site_fault.SiteFault.{SiteFault}
@@ -42,37 +37,10 @@ one_file files name v w is js =
     let bytes : is.bytes ≡ js.bytes = some_is is.bytes js.bytes (sym is.here ∙ js.here) in
     one_value js.bytes v w (subst (λ (bs : List ℕ). IsTextOf bs v) bytes is.text) js.text
 
-same_entries : (v : Json) (one other : Listing) → IsListingOf v one → IsListingOf v other → one.entries ≡ other.entries
-same_entries v one other is js =
-    let tops : (is.text, is.values) ≡ (js.text, js.values) = some_is (is.text, is.values) (js.text, js.values) (sym is.top ∙ js.top) in
-    let values : is.values ≡ js.values = ap (λ (t : Top). t.1) tops in
-    some_is one.entries other.entries (sym is.entries ∙ ap (each_of entry_of) values ∙ js.entries)
-
-page_is : (p q : PageDef) → p.address ≡ q.address → p.nodes ≡ q.nodes → p.timers ≡ q.timers → p.book ≡ q.book → p.eager ≡ q.eager → p.load ≡ q.load → p ≡ q
-page_is p q a n t b e l =
-    ap (λ x. record p { address = x }) a
-    ∙ ap (λ x. record p { address = q.address; nodes = x }) n
-    ∙ ap (λ x. record p { address = q.address; nodes = q.nodes; timers = x }) t
-    ∙ ap (λ x. record p { address = q.address; nodes = q.nodes; timers = q.timers; book = x }) b
-    ∙ ap (λ x. record p { address = q.address; nodes = q.nodes; timers = q.timers; book = q.book; eager = x }) e
-    ∙ ap (λ x. record q { load = x }) l
-
-one_page : (address : List ℕ) (v : Json) (p q : PageDef) → IsPageOf address v p → IsPageOf address v q → p ≡ q
-one_page address v p q is js =
-    let parts : is.parts ≡ js.parts = some_is is.parts js.parts (sym is.shape ∙ js.shape) in
-    let times : (p.eager, p.load) ≡ (q.eager, q.load) = is.times ∙ ap (λ (ps : Parts). ps.3) parts ∙ sym js.times in
-    page_is p q
-    (is.address_is ∙ sym js.address_is)
-    (some_is p.nodes q.nodes (sym is.nodes.spelled ∙ ap (λ (ps : Parts). each_of node_of ps.0) parts ∙ js.nodes.spelled))
-    (some_is p.timers q.timers (sym is.timers ∙ ap (λ (ps : Parts). each_of timer_of ps.1) parts ∙ js.timers))
-    (some_is p.book q.book (sym is.book ∙ ap (λ (ps : Parts). each_of script_of ps.2) parts ∙ js.book))
-    (ap (λ (t : ℕ × ℕ). t.0) times)
-    (ap (λ (t : ℕ × ℕ). t.1) times)
-
 one_page_file : (files : FileMap) (entry : Entry) (p q : PageDef) → IsPageFile files entry p → IsPageFile files entry q → p ≡ q
 one_page_file files entry p q is js =
     let same : is.value ≡ js.value = one_file files entry.file is.value js.value is.file js.file in
-    one_page entry.address js.value p q (subst (λ (v : Json). IsPageOf entry.address v p) same is.spells) js.spells
+    ok_is p q (sym is.spells ∙ ap (page_of entry.address) same ∙ js.spells)
 
 same_pages : (files : FileMap) (entries : List Entry) (ps qs : List PageDef) → ArePageFiles files entries ps → ArePageFiles files entries qs → ps ≡ qs
 same_pages files [] [] [] are brs = refl
@@ -158,23 +126,23 @@ no_pages_fault entries pages Memory of linked light is = of
 -- ---- a site has no fault
 
 module _ (files : FileMap) (name : List ℕ) (fault : SiteFault) (site : Site) (of : IsOfFiles fault) (is : IsSiteOf files name site) where
-  same_listing : (listing : Listing) → (v : Json) → IsFileOf files name v → IsListingOf v listing → listing.entries ≡ is.listing.entries
+  same_listing : (listing : Listing) → (v : Json) → IsFileOf files name v → listing_of v ≡ Ok listing → listing.entries ≡ is.listing.entries
   same_listing listing v file lists =
-      same_entries is.own.value listing is.listing (subst (λ (w : Json). IsListingOf w listing) (one_file files name v is.own.value file is.own.file) lists) is.own.lists
+      ap (λ (l : Listing). l.entries) (ok_is listing is.listing (sym lists ∙ ap listing_of (one_file files name v is.own.value file is.own.file) ∙ is.own.lists))
 
   pub no_site : IsFirstFault files name fault → ⊥
   no_site (of_site wrong) =
-      no_file_fault files name 0 listing_fault is.own.value is.own.file (let t = is.rest.together in omega (arith, t)) (listing_is_clean is.own.value is.listing is.own.lists) fault of wrong
+      no_file_fault files name 0 listing_fault is.own.value is.own.file (let t = is.rest.together in omega (arith, t)) (ap result_err is.own.lists) fault of wrong
   no_site (of_entry listing own wrong) =
       let same = same_listing listing own.value own.file own.lists in
       let before = size_at files name in
       let here : slice_get is.listing.entries wrong.place ≡ Some wrong.entry = subst (λ (es : List Entry). slice_get es wrong.place ≡ Some wrong.entry) same wrong.here in
       let found = page_file_at files is.listing.entries site.pages wrong.place wrong.entry is.rest.pages_are here in
       let page = found.1 in
-      no_file_fault files wrong.entry.file (before + sizes files (take wrong.place is.listing.entries)) page_fault page.value page.file
+      no_file_fault files wrong.entry.file (before + sizes files (take wrong.place is.listing.entries)) (page_fault wrong.entry) page.value page.file
       (entry_fits files before is.listing.entries wrong.place wrong.entry here is.rest.together)
-      (page_faultless wrong.entry.address page.value found.0 page.spells page.lawful) fault of
-      (subst (λ (es : List Entry). IsFileFault files wrong.entry.file (before + sizes files (take wrong.place es)) page_fault fault) same wrong.fault_is)
+      (ap result_err page.spells) fault of
+      (subst (λ (es : List Entry). IsFileFault files wrong.entry.file (before + sizes files (take wrong.place es)) (page_fault wrong.entry) fault) same wrong.fault_is)
   no_site (of_pages listing pages own good wrong) =
       let same = same_listing listing own.value own.file own.lists in
       let all : pages ≡ site.pages = same_pages files is.listing.entries pages site.pages (subst (λ (es : List Entry). ArePageFiles files es pages) same good.pages_are) is.rest.pages_are in

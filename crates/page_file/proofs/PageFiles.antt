@@ -6,8 +6,7 @@ use Rattle.std.proofs.lemmas.Option.{slice_get-get_or}
 use Rattle.page_engine.specs.Pages.{IsLawfulPage}
 use Rattle.page_engine.specs.declared.page_def.PageDef.{PageDef}
 use Rattle.page_file.proofs.HeavyPages.{sum_more}
-use Rattle.page_file.specs.PageFaults.{page_fault}
-use Rattle.page_file.specs.SiteFiles.{FileMap, files_limit, size_at, sizes, IsPageFile, ArePageFiles, AreGoodFiles, IsFileFault, IsEntryFault}
+use Rattle.page_file.specs.SiteFiles.{FileMap, files_limit, size_at, sizes, IsPageFile, ArePageFiles, AreGoodFiles, page_fault, IsFileFault, IsEntryFault}
 use Rattle.page_file.specs.declared.listing.Entry.{Entry}
 use Rattle.page_file.specs.declared.site_fault.SiteFault.{SiteFault}
 
@@ -40,14 +39,14 @@ module _ (files : FileMap) (before : ℕ) (entries : List Entry) (i : ℕ) (entr
   }
 
   pub entry_fault : (pages : List PageDef) (total : ℕ) (fault : SiteFault) → AreGoodFiles files before (take i entries) pages → total ≡ before + sizes files (take i entries)
-      → IsFileFault files entry.file total page_fault fault → IsEntryFault files before entries fault
+      → IsFileFault files entry.file total (page_fault entry) fault → IsEntryFault files before entries fault
   entry_fault pages total fault good is wrong = record {
     place = i;
     entry = entry;
     here = slice_get-get_or entries i entry within ∙ ap (λ (e : Entry). Some e) (sym here);
     pages = pages;
     good = good;
-    fault_is = subst (λ (n : ℕ). IsFileFault files entry.file n page_fault fault) is wrong;
+    fault_is = subst (λ (n : ℕ). IsFileFault files entry.file n (page_fault entry) fault) is wrong;
   }
 
   pub addresses_more : (pages : List PageDef) (page : PageDef) → map (λ p. p.address) pages ≡ map (λ e. e.address) (take i entries) → page.address ≡ entry.address

@@ -1,5 +1,6 @@
 -- Lists whose keys differ, told by a set of the keys that were seen.
 use Rattle.std.proofs.Common.{◌≡◌, ℕ, zero, suc, ◌+◌, ◌<◌, ◌≤◌, Bool, true, false, ◌&&◌, ◌||◌, not, List, [], ◌∷◌, ◌++◌, Some, None, length, take, drop, get_or, refl, sym, ap, subst, ◌∙◌, arith, tests}
+use Rattle.std.proofs.lemmas.Bool.{and_from, not-true, or_from, or_parts}
 use Rattle.std.specs.Prelude.{slice_get, nat_lt, String}
 use Rattle.std.proofs.lemmas.List.{take_more, take-append-drop, at_drop_more}
 use Rattle.std.proofs.lemmas.List.Folds.{list_any-append}
@@ -9,24 +10,9 @@ use Rattle.std.specs.List.{list_any}
 use Rattle.std.specs.Str.{bytes_eq, chars, encode_utf8_all}
 use Rattle.page_engine.specs.Books.{are_pairs, is_entry, is_book}
 use Rattle.page_engine.specs.declared.book.BookEntry.{BookEntry}
-use Rattle.page_file.proofs.EachMore.{some_is}
-use Rattle.page_file.proofs.EachRead.{first_of, second_of}
-
-both : (a b : Bool) → a ≡ true → b ≡ true → (a && b) ≡ true
-both true b e f = f
-both false b e f = e
-
-neither : (a b : Bool) → (a || b) ≡ false → (a ≡ false) × (b ≡ false)
-neither true b h = absurd (let e : true ≡ false = h in cc)
-neither false b h = (refl, h)
-
-or_false : (a b : Bool) → a ≡ false → b ≡ false → (a || b) ≡ false
-or_false true b e f = e
-or_false false b e f = f
-
-not_is : (b : Bool) → not b ≡ true → b ≡ false
-not_is true h = absurd (let e : false ≡ true = h in cc)
-not_is false h = refl
+use Rattle.page_file.proofs.Tests.{some_is}
+use Rattle.page_file.proofs.Tests.{first_of, second_of}
+use Rattle.page_file.specs.Seen.{HasKeys}
 
 swap : (a b : Bool) → (a || b) ≡ (b || a)
 swap true true = refl
@@ -59,14 +45,14 @@ module _ {X : Type 0} (good : X → Bool) (key : X → List ℕ) where
   differ (x ∷ xs) = good x && (not (has_key x xs) && differ xs)
 
   pub differ_push : (xs : List X) (x : X) → differ xs ≡ true → good x ≡ true → is_had x xs ≡ false → differ (xs ++ x ∷ []) ≡ true
-  differ_push [] x h g n = both (good x) true g refl
+  differ_push [] x h g n = and_from (good x) true g refl
   differ_push (y ∷ ys) x h g n =
       let later = second_of (good y) (not (has_key y ys) && differ ys) h in
-      let apart = neither (bytes_eq (key x) (key y)) (is_had x ys) n in
+      let apart = or_parts (bytes_eq (key x) (key y)) (is_had x ys) n in
       let none : has_key y (ys ++ x ∷ []) ≡ false = list_any-append (λ other. bytes_eq (key other) (key y)) ys (x ∷ [])
-      ∙ or_false (has_key y ys) (bytes_eq (key x) (key y) || false) (not_is (has_key y ys) (first_of (not (has_key y ys)) (differ ys) later)) (or_false (bytes_eq (key x) (key y)) false apart.0 refl) in
-      both (good y) (not (has_key y (ys ++ x ∷ [])) && differ (ys ++ x ∷ [])) (first_of (good y) (not (has_key y ys) && differ ys) h)
-      (both (not (has_key y (ys ++ x ∷ []))) (differ (ys ++ x ∷ [])) (ap not none) (differ_push ys x (second_of (not (has_key y ys)) (differ ys) later) g apart.1))
+      ∙ or_from (has_key y ys) (bytes_eq (key x) (key y) || false) (not-true (has_key y ys) (first_of (not (has_key y ys)) (differ ys) later)) (or_from (bytes_eq (key x) (key y)) false apart.0 refl) in
+      and_from (good y) (not (has_key y (ys ++ x ∷ [])) && differ (ys ++ x ∷ [])) (first_of (good y) (not (has_key y ys) && differ ys) h)
+      (and_from (not (has_key y (ys ++ x ∷ []))) (differ (ys ++ x ∷ [])) (ap not none) (differ_push ys x (second_of (not (has_key y ys)) (differ ys) later) g apart.1))
 
   pub last_good : (xs : List X) (x : X) (rest : List X) → differ (xs ++ x ∷ rest) ≡ true → good x ≡ true
   last_good [] x rest h = first_of (good x) (not (has_key x rest) && differ rest) h
@@ -77,10 +63,10 @@ module _ {X : Type 0} (good : X → Bool) (key : X → List ℕ) where
   last_new (y ∷ ys) x rest h =
       let all = ys ++ x ∷ rest in
       let later = second_of (good y) (not (has_key y all) && differ all) h in
-      let none = not_is (has_key y all) (first_of (not (has_key y all)) (differ all) later) in
-      let parts = neither (has_key y ys) (bytes_eq (key x) (key y) || has_key y rest) (sym (list_any-append (λ other. bytes_eq (key other) (key y)) ys (x ∷ rest)) ∙ none) in
-      let here = neither (bytes_eq (key x) (key y)) (has_key y rest) parts.1 in
-      or_false (bytes_eq (key x) (key y)) (is_had x ys) here.0 (last_new ys x rest (second_of (not (has_key y all)) (differ all) later))
+      let none = not-true (has_key y all) (first_of (not (has_key y all)) (differ all) later) in
+      let parts = or_parts (has_key y ys) (bytes_eq (key x) (key y) || has_key y rest) (sym (list_any-append (λ other. bytes_eq (key other) (key y)) ys (x ∷ rest)) ∙ none) in
+      let here = or_parts (bytes_eq (key x) (key y)) (has_key y rest) parts.1 in
+      or_from (bytes_eq (key x) (key y)) (is_had x ys) here.0 (last_new ys x rest (second_of (not (has_key y all)) (differ all) later))
 
   pub split_at : (xs : List X) (i : ℕ) (x : X) → i < length xs → x ≡ get_or xs i x → xs ≡ take i xs ++ x ∷ drop (i + 1) xs
   split_at xs i x h is =
@@ -123,11 +109,6 @@ codes_eq key t (x ∷ xs) at each =
     ap (λ b. b || list_any (λ o. bytes_eq (encode_utf8_all (key o)) (encode_utf8_all t)) xs) (code_eq t (key x) at (each 0 x refl))
     ∙ ap (λ b. bytes_eq t (key x) || b) (codes_eq key t xs at (λ n. each (suc n)))
 
--- the set has the bytes of the keys
-pub record HasKeys {X Y : Type 0} (key : X → List ℕ) (set : BTreeSet (String Y)) (xs : List X) : Type 0 where
-  pub bytes : (cs : List ℕ) → contains_text set cs ≡ list_any (λ x. bytes_eq (encode_utf8_all (key x)) cs) xs
-  pub texts : (n : ℕ) (x : X) → slice_get xs n ≡ Some x → chars (encode_utf8_all (key x)) ≡ key x
-
 pub had_is : {X Y : Type 0} (key : X → List ℕ) (set : BTreeSet (String Y)) (xs : List X) (x : X) → HasKeys key set xs → chars (encode_utf8_all (key x)) ≡ key x
     → contains_text set (encode_utf8_all (key x)) ≡ list_any (λ other. bytes_eq (key x) (key other)) xs
 had_is key set xs x has at = has.bytes (encode_utf8_all (key x)) ∙ codes_eq key (key x) xs at has.texts
@@ -147,6 +128,15 @@ has_more {X} key set new xs x has at grown = record {
       ∙ ap (λ b. list_any test xs || b) (sym (plus_false (test x))) ∙ sym (list_any-append test xs (x ∷ []));
   texts = get_more (λ (y : X). chars (encode_utf8_all (key y)) ≡ key y) xs x has.texts at;
 }
+
+-- what noting a text answers
+pub was_had : (b h : Bool) → b ≡ not h → b ≡ false → h ≡ true
+was_had b true e f = refl
+was_had b false e f = cc
+
+pub was_new : (b h : Bool) → b ≡ not h → b ≡ true → h ≡ false
+was_new b true e f = cc
+was_new b false e f = refl
 
 pub has_none_yet : {X Y : Type 0} (key : X → List ℕ) (set : BTreeSet (String Y)) → ((cs : List ℕ) → contains_text set cs ≡ false) → HasKeys {X = X} key set []
 has_none_yet key set none = record { bytes = none; texts = λ n x at. absurd (let e : None ≡ Some x = at in cc) }

@@ -2,8 +2,7 @@
 use Rattle.std.proofs.Common.{◌≡◌, ℕ, ◌+◌, List, subst, refl, arith}
 use Rattle.page_engine.specs.Links.{AreLinked}
 use Rattle.page_engine.specs.declared.page_def.PageDef.{PageDef}
-use Rattle.page_file.specs.Listings.{listing_fault}
-use Rattle.page_file.specs.SiteFiles.{FileMap, size_at, IsListingFile, AreGoodFiles, IsSiteOf, IsFileFault, IsEntryFault, IsPagesFault, IsFirstFault, of_site, of_entry, of_pages}
+use Rattle.page_file.specs.SiteFiles.{FileMap, size_at, IsListingFile, AreGoodFiles, IsSiteOf, listing_fault, IsFileFault, IsEntryFault, IsPagesFault, IsFirstFault, of_site, of_entry, of_pages}
 use Rattle.page_file.specs.declared.listing.Listing.{Listing}
 use Rattle.page_file.specs.declared.site_fault.SiteFault.{SiteFault}
 use Rattle.page_file.specs.declared.site_fault.SiteFault.TheVariants.{Memory}

@@ -1,6 +1,7 @@
 -- The numbers of what a list of effects is spelled with are whole.
-use Rattle.std.proofs.Common.{◌≡◌, ℕ, pos, ◌<◌, ◌^◌, nat_lt, Bool, true, false, ◌&&◌, List, [], ◌∷◌, ◌++◌, refl, ap, ◌∙◌, arith, tests}
-use Rattle.page_file.proofs.EachRead.{first_of, second_of}
+use Rattle.std.proofs.Common.{◌≡◌, ℕ, pos, ◌<◌, ◌^◌, nat_lt, Bool, true, List, [], ◌∷◌, ◌++◌, refl, ap, ◌∙◌, arith, tests}
+use Rattle.std.proofs.lemmas.Bool.{and_from}
+use Rattle.page_file.proofs.Tests.{first_of, second_of}
 use Rattle.wd_json.proofs.Shapes.{data_of-Null, data_of-Bool, data_of-Int, data_of-Text, data_of-List}
 use Rattle.wd_json.specs.Json.{data_of, items_data}
 use Rattle.wd_json.specs.Whole.{is_whole, items_are_whole}
@@ -27,14 +28,10 @@ natural_whole n h =
     let below : nat_lt n (2 ^ 53) ≡ true = grind (arith, tests) in
     ap is_whole (data_of-Int (pos n)) ∙ below
 
-both : (a b : Bool) → a ≡ true → b ≡ true → (a && b) ≡ true
-both true b e f = f
-both false b e f = e
-
 pub items_more : (vs : List Json) (v : Json) → AreWhole vs → Whole v → AreWhole (vs ++ v ∷ [])
-items_more [] v h k = both (is_whole (data_of v)) true k refl
+items_more [] v h k = and_from (is_whole (data_of v)) true k refl
 items_more (w ∷ vs) v h k =
-    both (is_whole (data_of w)) (items_are_whole (items_data (vs ++ v ∷ []))) (first_of (is_whole (data_of w)) (items_are_whole (items_data vs)) h)
+    and_from (is_whole (data_of w)) (items_are_whole (items_data (vs ++ v ∷ []))) (first_of (is_whole (data_of w)) (items_are_whole (items_data vs)) h)
     (items_more vs v (second_of (is_whole (data_of w)) (items_are_whole (items_data vs)) h) k)
 
 pub list_whole : (vs : List Json) → AreWhole vs → Whole (json.List vs)

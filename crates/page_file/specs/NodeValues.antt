@@ -97,7 +97,11 @@ abbrev pub Look : Type 0
 Look = Option PixelBox × ℤ × Bool
 
 abbrev pub look_in : Members → Option Look
-look_in members = option_and_then (λ pixels. option_and_then (λ layer. option_map (λ hidden. (pixels, layer, hidden)) (hidden_in members)) (layer_in members)) (pixels_in members)
+look_in members =
+    option_and_then (λ pixels. option_and_then (λ layer. option_map (λ hidden. (pixels, layer, hidden))
+    (hidden_in members))
+    (layer_in members))
+    (pixels_in members)
 
 -- the object of the handlers
 abbrev pub on_in : Members → Option Members
@@ -127,7 +131,11 @@ abbrev pub with_look : NodeKind → Option ℕ → List Attribute → Look → N
 with_look kind up attrs look = record { kind = kind; up = up; attrs = attrs; pixels = look.0; layer = look.1; hidden = look.2; on = [] }
 
 abbrev pub dressed : Members → List ℕ → Option ℕ → Option NodeDef
-dressed members tag up = option_and_then (λ look. option_and_then (λ on. option_map (λ attrs. with_look (Element tag) up attrs look) (attributes_in members)) (on_in members)) (look_in members)
+dressed members tag up =
+    option_and_then (λ look. option_and_then (λ on. option_map (λ attrs. with_look (Element tag) up attrs look)
+    (attributes_in members))
+    (on_in members))
+    (look_in members)
 
 abbrev pub node_with : Members → NodeKind → Option ℕ → Option NodeDef
 node_with members (Element tag) up = dressed members tag up

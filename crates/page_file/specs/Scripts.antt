@@ -1,6 +1,6 @@
--- Which answers to scripts a list of values spells, and the first thing that is wrong with it.
-use Rattle.std.specs.Prelude.{◌≡◌, ℕ, ◌^◌, pos, Bool, false, ◌&&◌, not, nat_le, List, [], ◌∷◌, Option, Some, None, length, take, slice_get, codes, if◌then◌else◌}
-use Rattle.std.specs.List.{list_any, filter_map}
+-- Which answer to a script a value spells that comes after other answers.
+use Rattle.std.specs.Prelude.{ℕ, ◌^◌, pos, Bool, false, ◌&&◌, not, nat_le, List, [], ◌∷◌, Option, Some, None, Result, codes, if◌then◌else◌}
+use Rattle.std.specs.List.{list_any}
 use Rattle.std.specs.Option.{option_map, option_and_then}
 use Rattle.std.specs.Str.{bytes_eq}
 use Rattle.page_engine.specs.Books.{is_entry}
@@ -8,12 +8,10 @@ use Rattle.page_engine.specs.declared.book.BookCell.{BookCell}
 use Rattle.page_engine.specs.declared.book.BookEntry.{BookEntry}
 use Rattle.page_engine.specs.declared.effect.Effect.{Effect}
 use Rattle.page_file.specs.Cells.{cells_of}
-use Rattle.page_file.specs.First.{Fault, first_fault}
 use Rattle.page_file.specs.Members.{Members, object_of, has_only, optional}
+use Rattle.page_file.specs.Rows.{or_fault, keep}
 use Rattle.page_file.specs.Spelled.{effects_in}
 use Rattle.page_file.specs.Values.{text_of, bool_of, number_of}
-use Rattle.page_file.specs.declared.page_fault.PageFault.{PageFault}
-use Rattle.page_file.specs.declared.page_fault.PageFault.TheVariants.{Bad, Memory}
 use Rattle.page_file.specs.declared.why.Why.{Why}
 use Rattle.page_file.specs.declared.why.Why.TheVariants.{Script}
 use Rattle.wd_json.specs.Keys.{get}
@@ -64,19 +62,11 @@ abbrev pub entry_of : Json → Option BookEntry
 entry_of v = option_and_then entry_in (object_of v)
 
 -- it keeps the rules, and its text is another than those of the earlier ones
-abbrev pub is_good_entry : List BookEntry → Option BookEntry → Bool
-is_good_entry earlier None = false
-is_good_entry earlier (Some entry) = is_entry entry && not (list_any (λ other. bytes_eq entry.script other.script) earlier)
+abbrev pub is_next : List BookEntry → BookEntry → Bool
+is_next earlier entry = is_entry entry && not (list_any (λ other. bytes_eq entry.script other.script) earlier)
 
-abbrev pub entries_before : List Json → ℕ → List BookEntry
-entries_before values n = filter_map entry_of (take n values)
+abbrev pub next_script : List BookEntry → Json → Result BookEntry Why
+next_script earlier v = or_fault Script (keep (is_next earlier) (entry_of v))
 
-abbrev pub script_fault_at : List Json → ℕ → Option Why
-script_fault_at values n = if is_good_entry (entries_before values n) (option_and_then entry_of (slice_get values n)) then None else Some Script
-
-abbrev pub scripts_fault : List Json → Option Fault
-scripts_fault values = first_fault (script_fault_at values) (length values)
-
-abbrev pub IsScriptsCause : List Json → PageFault → Type 0
-IsScriptsCause values (Bad row why) = scripts_fault values ≡ Some (row, why)
-IsScriptsCause values Memory = Unit {0}
+abbrev pub script : BookEntry → List ℕ
+script entry = entry.script

@@ -1,16 +1,15 @@
 -- Which site the files spell, and the first thing that is wrong with them.
-use Rattle.std.specs.Prelude.{◌≡◌, ℕ, ◌+◌, ◌≤◌, ◌||◌, nat_lt, Bool, true, false, List, [], ◌∷◌, Option, Some, length, map, sum, take, slice_get}
+use Rattle.std.specs.Prelude.{◌≡◌, ℕ, ◌+◌, ◌≤◌, ◌||◌, nat_lt, Bool, true, false, List, [], ◌∷◌, Option, Some, Ok, length, map, sum, take, slice_get}
 use Rattle.std.specs.List.{list_all, position}
 use Rattle.std.specs.Option.{option_map, option_and_then, option_map_or}
+use Rattle.std.specs.Result.{result_err}
 use Rattle.std.specs.Str.{encode_utf8_all}
-use Rattle.page_engine.specs.Pages.{IsLawfulPage}
 use Rattle.page_engine.specs.declared.page_def.PageDef.{PageDef}
 use Rattle.page_engine.specs.declared.site.Site.{Site}
-use Rattle.page_file.specs.First.{Fault}
 use Rattle.page_engine.specs.Links.{AreLinked, is_linked}
-use Rattle.page_file.specs.Listings.{IsListingOf, listing_fault}
-use Rattle.page_file.specs.PageFaults.{page_fault}
-use Rattle.page_file.specs.PageSpelled.{IsPageOf}
+use Rattle.page_file.specs.Listings.{listing_of}
+use Rattle.page_file.specs.PageSpelled.{page_of}
+use Rattle.page_file.specs.Rows.{Fault}
 use Rattle.page_file.specs.Weighing.{is_unlinked, is_heavy}
 use Rattle.page_file.specs.declared.listing.Entry.{Entry}
 use Rattle.page_file.specs.declared.listing.Listing.{Listing}
@@ -64,14 +63,13 @@ pub record IsFileOf (files : FileMap) (name : List ℕ) (v : Json) : Type 0 wher
 pub record IsListingFile (files : FileMap) (name : List ℕ) (listing : Listing) : Type 0 where
   pub value : Json
   pub file : IsFileOf files name value
-  pub lists : IsListingOf value listing
+  pub lists : listing_of value ≡ Ok listing
 
--- the entry's file spells this page, which keeps the rules
+-- the entry's file spells this page
 pub record IsPageFile (files : FileMap) (entry : Entry) (page : PageDef) : Type 0 where
   pub value : Json
   pub file : IsFileOf files entry.file value
-  pub spells : IsPageOf entry.address value page
-  pub lawful : IsLawfulPage page
+  pub spells : page_of entry.address value ≡ Ok page
 
 -- each entry's file spells the page at its place
 abbrev pub ArePageFiles : FileMap → List Entry → List PageDef → Type 0
@@ -113,6 +111,13 @@ pub record IsBadAt (files : FileMap) (name : List ℕ) (before : ℕ) (wrong : J
   pub fits : is_too_long before (length bytes) ≡ false
   pub is_wrong : IsWrong bytes wrong row why
 
+-- the first thing that is wrong with the value of the site's file, and with that of an entry's file
+abbrev pub listing_fault : Json → Option Fault
+listing_fault v = result_err (listing_of v)
+
+abbrev pub page_fault : Entry → Json → Option Fault
+page_fault entry v = result_err (page_of entry.address v)
+
 -- What is wrong with the file of that name, where so many bytes were read before it, and a value has a fault by
 -- `wrong`. That it couldn't be read, and want of memory, say nothing of what it holds.
 abbrev pub IsFileFault : FileMap → List ℕ → ℕ → (Json → Option Fault) → SiteFault → Type 0
@@ -129,7 +134,7 @@ pub record IsEntryFault (files : FileMap) (before : ℕ) (entries : List Entry) 
   pub here : slice_get entries place ≡ Some entry
   pub pages : List PageDef
   pub good : AreGoodFiles files before (take place entries) pages
-  pub fault_is : IsFileFault files entry.file (before + sizes files (take place entries)) page_fault fault
+  pub fault_is : IsFileFault files entry.file (before + sizes files (take place entries)) (page_fault entry) fault
 
 -- the file of the first page of which the test holds
 abbrev pub first_file : List Entry → List PageDef → (PageDef → Bool) → Option (List ℕ)
@@ -139,7 +144,8 @@ first_file entries pages test = option_map (λ entry. entry.file) (option_and_th
 abbrev pub IsPagesFault : List Entry → List PageDef → SiteFault → Type 0
 IsPagesFault entries pages (Read n) = ⊥
 IsPagesFault entries pages (TooLong n) = ⊥
-IsPagesFault entries pages (Bad n row why) = (list_all (is_linked pages) pages ≡ true) × (first_file entries pages (is_heavy pages) ≡ Some n) × (row ≡ 0) × (why ≡ reason.Weight)
+IsPagesFault entries pages (Bad n row why) =
+    (list_all (is_linked pages) pages ≡ true) × (first_file entries pages (is_heavy pages) ≡ Some n) × (row ≡ 0) × (why ≡ reason.Weight)
 IsPagesFault entries pages (Links n) = first_file entries pages (is_unlinked pages) ≡ Some n
 IsPagesFault entries pages Memory = Unit {0}
 
@@ -147,7 +153,8 @@ IsPagesFault entries pages Memory = Unit {0}
 pub data IsFirstFault (files : FileMap) (name : List ℕ) (fault : SiteFault) : Type 0 where
   of_site : IsFileFault files name 0 listing_fault fault → IsFirstFault files name fault
   of_entry : (listing : Listing) → IsListingFile files name listing → IsEntryFault files (size_at files name) listing.entries fault → IsFirstFault files name fault
-  of_pages : (listing : Listing) (pages : List PageDef) → IsListingFile files name listing → AreGoodFiles files (size_at files name) listing.entries pages → IsPagesFault listing.entries pages fault → IsFirstFault files name fault
+  of_pages : (listing : Listing) (pages : List PageDef) → IsListingFile files name listing
+      → AreGoodFiles files (size_at files name) listing.entries pages → IsPagesFault listing.entries pages fault → IsFirstFault files name fault
 
 -- the fault says something of what the files hold
 abbrev pub IsOfFiles : SiteFault → Type 0

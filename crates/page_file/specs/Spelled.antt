@@ -1,9 +1,10 @@
 -- Which effects a JSON value spells: the table of effects, one row a word.
-use Rattle.std.specs.Prelude.{ℕ, List, [], ◌∷◌, Option, Some, None}
+use Rattle.std.specs.Prelude.{ℕ, List, [], ◌∷◌, Option, None}
 use Rattle.std.specs.Option.{option_map, option_and_then}
 use Rattle.page_engine.specs.declared.effect.Effect.{Effect}
 use Rattle.page_engine.specs.declared.effect.Effect.TheVariants as effect
 use Rattle.page_engine.specs.declared.effect.PromptKind.{PromptKind}
+use Rattle.page_file.specs.Members.{each_of}
 use Rattle.page_file.specs.Values.{text_of, optional_text_of, bool_of, list_of, number_of, wait_of, within_of, optional_box_of}
 use Rattle.page_file.specs.Words.{row_of, kind_of}
 use Rattle.page_file.specs.declared.word.Word.{Word}
@@ -27,27 +28,31 @@ abbrev pub one_text : List Json → Option (List ℕ)
 one_text (t ∷ []) = text_of t
 one_text values = None
 
-abbrev insert_row : List Json → Option Effect
+abbrev pub insert_row : List Json → Option Effect
 insert_row (n ∷ p ∷ k ∷ []) =
     option_and_then (λ n. option_and_then (λ p. option_map (effect.Insert n p) (number_of k)) (number_of p)) (number_of n)
 insert_row values = None
 
-abbrev attr_row : List Json → Option Effect
+abbrev pub attr_row : List Json → Option Effect
 attr_row (n ∷ name ∷ value ∷ []) =
     option_and_then (λ n. option_and_then (λ name. option_map (effect.Attr n name) (optional_text_of value)) (text_of name)) (number_of n)
 attr_row values = None
 
--- one effect for the node, and the value that is read
-abbrev node_row : {A : Type 0} → (Json → Option A) → (ℕ → A → Effect) → List Json → Option Effect
-node_row read make values = option_and_then (λ p. option_map (make p.0) (read p.1)) (node_and values)
+-- what is set at a node
+abbrev pub set_at : Word → ℕ → Json → Option Effect
+set_at word.Text n v = option_map (effect.Text n) (text_of v)
+set_at word.Pixels n v = option_map (effect.Pixels n) (optional_box_of v)
+set_at word.Layer n v = option_map (effect.Layer n) (within_of 1000 v)
+set_at word.Hidden n v = option_map (effect.Hidden n) (bool_of v)
+set_at word.Value n v = option_map (effect.Value n) (text_of v)
+set_at word.Checked n v = option_map (effect.Checked n) (bool_of v)
+set_at w n v = None
 
--- each value spells one
-abbrev pub each : (Json → Option Effect) → List Json → Option (List Effect)
-each read [] = Some []
-each read (v ∷ vs) = option_and_then (λ e. option_map (λ es. e ∷ es) (each read vs)) (read v)
+abbrev set_row : Word → List Json → Option Effect
+set_row w values = option_and_then (λ p. set_at w p.0 p.1) (node_and values)
 
 abbrev pub all_in : (Json → Option Effect) → Json → Option (List Effect)
-all_in read v = option_and_then (each read) (list_of v)
+all_in read v = option_and_then (each_of read) (list_of v)
 
 abbrev of_row : (Word → List Json → Option Effect) → Json → Option Effect
 of_row read v = option_and_then (λ row. read row.0 row.1) (row_of v)
@@ -58,12 +63,12 @@ abbrev pub plain_row : Word → List Json → Option Effect
 plain_row word.Remove values = option_map effect.Remove (one_node values)
 plain_row word.Insert values = insert_row values
 plain_row word.Attr values = attr_row values
-plain_row word.Text values = node_row text_of effect.Text values
-plain_row word.Pixels values = node_row optional_box_of effect.Pixels values
-plain_row word.Layer values = node_row (within_of 1000) effect.Layer values
-plain_row word.Hidden values = node_row bool_of effect.Hidden values
-plain_row word.Value values = node_row text_of effect.Value values
-plain_row word.Checked values = node_row bool_of effect.Checked values
+plain_row word.Text values = set_row word.Text values
+plain_row word.Pixels values = set_row word.Pixels values
+plain_row word.Layer values = set_row word.Layer values
+plain_row word.Hidden values = set_row word.Hidden values
+plain_row word.Value values = set_row word.Value values
+plain_row word.Checked values = set_row word.Checked values
 plain_row word.Focus values = option_map effect.Focus (one_node values)
 plain_row word.Go values = option_map effect.Go (one_text values)
 plain_row word.Open values = option_map effect.Open (one_text values)

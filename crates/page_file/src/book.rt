@@ -1,3 +1,5 @@
+//! Whether the answer to a script keeps the rules: places of cells, and keys that differ.
+
 ghost use Rattle.std.specs.Prelude.{◌≡◌, ◌<◌, IfOk, length, nat_lt, true};
 ghost use Rattle.std.specs.List.{list_all};
 ghost use Rattle.page_engine.specs.Books.{are_pairs, is_cell, is_entry, is_end};
@@ -7,7 +9,7 @@ use crate::seen::note;
 use page_engine::{BookCell, BookEntry, CellPairs, CellRefs};
 use std::alloc::Global;
 use std::collections::BTreeSet;
-use wd_json::Memory;
+use wd_json::{MAX_WHOLE, Memory};
 
 // Whether the places are those of cells.
 fn are_places(count: usize, places: &CellRefs) -> bool
@@ -41,7 +43,7 @@ fn is_cell(alloc: Global, count: usize, cell: &BookCell) -> Result<bool, Memory>
     ensures { IfOk result (λ b. b ≡ is_cell count cell.now) }
 {
     match cell {
-        BookCell::Int(n) => Ok(n.unsigned_abs() <= 9_007_199_254_740_991),
+        BookCell::Int(n) => Ok(n.unsigned_abs() <= MAX_WHOLE as u64),
         BookCell::List(places) => Ok(are_places(count, places)),
         BookCell::Object(pairs) => are_pairs(alloc, count, pairs),
         _ => Ok(true),

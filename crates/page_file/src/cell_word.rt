@@ -1,3 +1,5 @@
+//! The words with which the cells of a script's result begin.
+
 ghost use Rattle.std.specs.Prelude.{◌≡◌};
 ghost use Rattle.page_file.specs.Cells.{cell_text, cell_with, cell_word_of};
 

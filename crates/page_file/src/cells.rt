@@ -1,13 +1,17 @@
-ghost use Rattle.std.specs.Prelude.{◌≡◌, IfOk};
+//! The cells of a script's result that a value spells.
+
+ghost use Rattle.std.specs.Prelude.{◌≡◌, IfOk, true};
 ghost use Rattle.std.specs.Option.{option_map};
-ghost use Rattle.page_file.specs.Cells.{cell_row_of, bare_cell, plain_cell, places_of, pair_of, pairs_of, cell_with_value, cell_of, cells_of};
-ghost use Rattle.page_file.specs.Values.{text_of};
+ghost use Rattle.page_file.specs.Cells.{cell_row_of, bare_cell, plain_cell, pair_of, cell_with_value, cell_of, cells_of};
+ghost use Rattle.page_file.specs.Values.{number_of};
 
 use crate::cell_word::{CellWord, as_cell_word};
+use crate::each::{Spelling, list};
+use crate::plain::text;
 use crate::values::{as_bool, as_list, as_number, as_whole};
-use page_engine::{BookCell, BookCells, CellPairs, CellRefs};
+use page_engine::{BookCell, BookCells};
 use std::alloc::Global;
-use wd_json::{Json, Memory, WdList, WdText};
+use wd_json::{Json, Memory, WdText};
 
 // The list that begins with a word: the word, and the values after it.
 fn as_cell_row(value: &Json) -> Option<(CellWord, &[Json])>
@@ -19,64 +23,46 @@ fn as_cell_row(value: &Json) -> Option<(CellWord, &[Json])>
     }
 }
 
-// A copy of the text that a value is.
-fn text(alloc: Global, value: &Json) -> Result<Option<WdText>, Memory>
-    ensures { IfOk result (λ t. t ≡ text_of value.now) }
-{
-    match value {
-        Json::Text(text) => Ok(Some(text.copy(alloc)?)),
-        _ => Ok(None),
-    }
-}
-
 // ---- lists and objects
 
-fn places(alloc: Global, value: &Json) -> Result<Option<CellRefs>, Memory>
-    ensures { IfOk result (λ ps. ps ≡ places_of value.now) }
-{
-    let Json::List(values) = value else {
-        return Ok(None);
-    };
-    let mut places = Vec::with_capacity(alloc, values.len())?;
-    for item in values.as_slice() {
-        let Some(place) = as_number(item) else {
-            return Ok(None);
-        };
-        places.push(place)?;
+// The places of cells.
+struct OnePlace;
+
+impl Spelling for OnePlace {
+    type Value = Json;
+
+    type Item = u32;
+
+    ghost spelled = { number_of };
+
+    ghost fits = { λ _. true };
+
+    fn read(_alloc: Global, value: &Json) -> Result<Option<u32>, Memory> {
+        Ok(as_number(value))
     }
-    Ok(Some(WdList::from_vec(places)))
 }
 
 // A key and a place.
-fn pair(alloc: Global, value: &Json) -> Result<Option<(WdText, u32)>, Memory>
-    ensures { IfOk result (λ p. p ≡ pair_of value.now) }
-{
-    let Json::List(values) = value else {
-        return Ok(None);
-    };
-    let [Json::Text(key), place] = values.as_slice() else {
-        return Ok(None);
-    };
-    let Some(place) = as_number(place) else {
-        return Ok(None);
-    };
-    Ok(Some((key.copy(alloc)?, place)))
-}
+struct OnePair;
 
-fn pairs(alloc: Global, value: &Json) -> Result<Option<CellPairs>, Memory>
-    ensures { IfOk result (λ ps. ps ≡ pairs_of value.now) }
-{
-    let Json::List(values) = value else {
-        return Ok(None);
-    };
-    let mut pairs = Vec::with_capacity(alloc, values.len())?;
-    for item in values.as_slice() {
-        let Some(pair) = pair(alloc, item)? else {
+impl Spelling for OnePair {
+    type Value = Json;
+
+    type Item = (WdText, u32);
+
+    ghost spelled = { pair_of };
+
+    ghost fits = { λ _. true };
+
+    fn read(alloc: Global, value: &Json) -> Result<Option<(WdText, u32)>, Memory> {
+        let Some([Json::Text(key), place]) = as_list(value) else {
             return Ok(None);
         };
-        pairs.push(pair)?;
+        let Some(place) = as_number(place) else {
+            return Ok(None);
+        };
+        Ok(Some((key.copy(alloc)?, place)))
     }
-    Ok(Some(WdList::from_vec(pairs)))
 }
 
 // ---- cells
@@ -113,19 +99,29 @@ fn with_value(alloc: Global, word: CellWord, value: &Json) -> Result<Option<Book
     match word {
         CellWord::Fraction => Ok(text(alloc, value)?.map(|t| BookCell::Fraction(t))),
         CellWord::Text => Ok(text(alloc, value)?.map(|t| BookCell::Text(t))),
-        CellWord::List => Ok(places(alloc, value)?.map(|ps| BookCell::List(ps))),
-        CellWord::Object => Ok(pairs(alloc, value)?.map(|ps| BookCell::Object(ps))),
+        CellWord::List => Ok(list::<OnePlace>(alloc, value)?.map(|ps| BookCell::List(ps))),
+        CellWord::Object => Ok(list::<OnePair>(alloc, value)?.map(|ps| BookCell::Object(ps))),
         _ => Ok(plain(word, value)),
     }
 }
 
-fn cell(alloc: Global, value: &Json) -> Result<Option<BookCell>, Memory>
-    ensures { IfOk result (λ c. c ≡ cell_of value.now) }
-{
-    match as_cell_row(value) {
-        Some((word, [])) => Ok(bare(word)),
-        Some((word, [value])) => with_value(alloc, word, value),
-        _ => Ok(None),
+struct OneCell;
+
+impl Spelling for OneCell {
+    type Value = Json;
+
+    type Item = BookCell;
+
+    ghost spelled = { cell_of };
+
+    ghost fits = { λ _. true };
+
+    fn read(alloc: Global, value: &Json) -> Result<Option<BookCell>, Memory> {
+        match as_cell_row(value) {
+            Some((word, [])) => Ok(bare(word)),
+            Some((word, [value])) => with_value(alloc, word, value),
+            _ => Ok(None),
+        }
     }
 }
 
@@ -133,15 +129,5 @@ fn cell(alloc: Global, value: &Json) -> Result<Option<BookCell>, Memory>
 pub fn cells(alloc: Global, value: &Json) -> Result<Option<BookCells>, Memory>
     ensures { IfOk result (λ cs. cs ≡ cells_of value.now) }
 {
-    let Json::List(values) = value else {
-        return Ok(None);
-    };
-    let mut cells = Vec::with_capacity(alloc, values.len())?;
-    for item in values.as_slice() {
-        let Some(cell) = cell(alloc, item)? else {
-            return Ok(None);
-        };
-        cells.push(cell)?;
-    }
-    Ok(Some(WdList::from_vec(cells)))
+    list::<OneCell>(alloc, value)
 }

@@ -1,11 +1,10 @@
-ghost use Rattle.std.specs.Prelude.{◌≡◌, ◌≤◌, ◌∷◌, ◌++◌, [], false, true, Some, None, IfOk, IfErr, IfSome, length, is_none};
-ghost use Rattle.std.specs.List.{list_any};
-ghost use Rattle.std.specs.Str.{encode_utf8_all};
+//! The entries of a site's listing that a list of values spells.
+
+ghost use Rattle.std.specs.Prelude.{◌≡◌, ◌≤◌, ◌∷◌, ◌++◌, [], Ok, IfOk, IfErr, IfSome, length};
 ghost use Rattle.page_engine.specs.Sites.{address_named};
 ghost use Rattle.page_file.specs.Index.{IsIndexOf};
-ghost use Rattle.page_file.specs.First.{first_fault};
-ghost use Rattle.page_file.specs.Listings.{address_of, entry_of, entry_fault};
-ghost use Rattle.page_file.specs.EntriesRead.{AreEntriesOf, IsEntriesCause, IsPlain, IsNextEntry, IsNextEntryFault};
+ghost use Rattle.page_file.specs.Listings.{address_of, entry_of, next_entry, IsPlain};
+ghost use Rattle.page_file.specs.Rows.{rows, IsFaultOf, IsNextFault};
 
 use crate::listing::{Entry, EntryList};
 use crate::page_fault::PageFault;
@@ -70,22 +69,20 @@ fn next_entry(
 ) -> Result<Entry, PageFault>
     requires few { length entries.now ≤ 1000 }
     requires index { IsIndexOf entries.now places.old }
-    ensures next { IfOk result (IsNextEntry entries.now value.now) }
+    ensures next { IfOk result (λ e. next_entry entries.now value.now ≡ Ok e) }
     ensures index { IfOk result (λ e. IsIndexOf (entries.now ++ e ∷ []) places.new) }
-    ensures fault { IfErr result (IsNextEntryFault entries.now value.now) }
+    ensures fault { IfErr result (IsNextFault entries.now (next_entry entries.now value.now)) }
 {
     let row = entries.len() as u32;
+    let bad = PageFault::Bad {
+        row,
+        why: Why::Address,
+    };
     let Some(entry) = entry(alloc, value)? else {
-        return Err(PageFault::Bad {
-            row,
-            why: Why::Address,
-        });
+        return Err(bad);
     };
     if !add(places, alloc, entry.address.as_str(), row)? {
-        return Err(PageFault::Bad {
-            row,
-            why: Why::Address,
-        });
+        return Err(bad);
     }
     Ok(entry)
 }
@@ -95,10 +92,9 @@ fn next_entry(
 /// `Bad` with the first value that spells no entry, or one whose address an earlier one has.
 pub fn read_entries(alloc: Global, values: &[Json]) -> Result<(EntryList, Places), PageFault>
     requires { length values.now ≤ 1000 }
-    ensures entries { IfOk result (λ p. AreEntriesOf values.now p.0) }
+    ensures entries { IfOk result (λ p. rows next_entry values.now ≡ Ok p.0) }
     ensures index { IfOk result (λ p. IsIndexOf p.0 p.1) }
-    ensures faultless { IfOk result (λ _. first_fault (entry_fault values.now) (length values.now) ≡ None) }
-    ensures cause { IfErr result (IsEntriesCause values.now) }
+    ensures cause { IfErr result (IsFaultOf (rows next_entry values.now)) }
 {
     let mut entries = Vec::new(alloc);
     let mut places = HashMap::new(alloc);

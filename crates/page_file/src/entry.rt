@@ -1,3 +1,5 @@
+//! One answer to a script that a value spells.
+
 ghost use Rattle.std.specs.Prelude.{◌≡◌, IfOk, IfSome, Some, true, false, codes};
 ghost use Rattle.std.specs.Option.{option_and_then};
 ghost use Rattle.page_engine.specs.Books.{is_end};

@@ -1,3 +1,5 @@
+//! Why a value gives no list of effects.
+
 ghost use Rattle.std.specs.Prelude.{◌≡◌};
 ghost use Rattle.page_file.specs.declared.fault.EffectFault.TheVariants.{Memory as OutOfMemory};
 

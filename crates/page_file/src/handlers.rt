@@ -1,13 +1,16 @@
+//! The handlers of an element that its members spell.
+
 ghost use Rattle.std.specs.Prelude.{◌≡◌, IfOk, IfSome, true};
 ghost use Rattle.page_engine.specs.Fitting.{anywhere, fit_at};
 ghost use Rattle.page_engine.specs.Nodes.{are_handlers};
 ghost use Rattle.page_file.specs.Members.{each_of};
 ghost use Rattle.page_file.specs.NodeValues.{kind_named, handler_of, handlers_in, handlers_of};
 
+use crate::each::{Spelling, each};
 use crate::reading::effects;
 use page_engine::{EffectList, EventKind, HandlerList, NodeKind};
 use std::alloc::Global;
-use wd_json::{Json, JsonMap, Memory, WdList, WdText};
+use wd_json::{Json, JsonMap, Memory, WdText};
 
 const KINDS: [EventKind; 12] = [
     EventKind::PointerMove,
@@ -32,34 +35,33 @@ fn kind_named(name: &str) -> Option<EventKind>
     KINDS.iter().copied().find(|kind| kind.name() == name)
 }
 
-fn handler(
-    alloc: Global,
-    member: &(WdText, Json),
-) -> Result<Option<(EventKind, EffectList)>, Memory>
-    ensures same { IfOk result (λ h. h ≡ handler_of member.now) }
-    ensures fit { IfOk result (λ h. IfSome h (λ h. fit_at anywhere h.1 ≡ true)) }
-{
-    let Some(kind) = kind_named(member.0.as_str()) else {
-        return Ok(None);
-    };
-    let Some(effects) = effects(alloc, &member.1)? else {
-        return Ok(None);
-    };
-    Ok(Some((kind, effects)))
+struct OneHandler;
+
+impl Spelling for OneHandler {
+    type Value = (WdText, Json);
+
+    type Item = (EventKind, EffectList);
+
+    ghost spelled = { handler_of };
+
+    ghost fits = { λ handler. fit_at anywhere handler.1 };
+
+    fn read(
+        alloc: Global,
+        member: &(WdText, Json),
+    ) -> Result<Option<(EventKind, EffectList)>, Memory> {
+        let Some(kind) = kind_named(member.0.as_str()) else {
+            return Ok(None);
+        };
+        Ok(effects(alloc, &member.1)?.map(|effects| (kind, effects)))
+    }
 }
 
 fn handlers_among(alloc: Global, members: &JsonMap) -> Result<Option<HandlerList>, Memory>
     ensures same { IfOk result (λ hs. hs ≡ each_of handler_of members.now) }
     ensures good { IfOk result (λ hs. IfSome hs (λ hs. are_handlers hs ≡ true)) }
 {
-    let mut handlers = Vec::with_capacity(alloc, members.len())?;
-    for member in members.as_slice() {
-        let Some(handler) = handler(alloc, member)? else {
-            return Ok(None);
-        };
-        handlers.push(handler)?;
-    }
-    Ok(Some(WdList::from_vec(handlers)))
+    each::<OneHandler>(alloc, members.as_slice())
 }
 
 fn handlers_in(alloc: Global, members: &JsonMap) -> Result<Option<HandlerList>, Memory>

@@ -1,3 +1,5 @@
+//! Where the addresses of a page lead, and the first page that leads to no page.
+
 ghost use Rattle.std.specs.Prelude.{◌≡◌, ◌≤◌, All, IfOk, length};
 ghost use Rattle.std.specs.List.{list_all, flat_map};
 ghost use Rattle.std.specs.Option.{option_map};

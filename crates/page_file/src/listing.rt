@@ -1,3 +1,5 @@
+//! The listing of a site's pages.
+
 use wd_json::{WdList, WdText};
 
 /// What the file of a site says: its pages, and which of them is the start.

@@ -1,3 +1,5 @@
+//! What the weight of a page is made of.
+
 use page_engine::Target;
 use wd_json::WdList;
 

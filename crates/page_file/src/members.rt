@@ -1,3 +1,5 @@
+//! The names of an object's members, and its version.
+
 ghost use Rattle.std.specs.Prelude.{◌≡◌};
 ghost use Rattle.std.specs.List.{list_all, list_any};
 ghost use Rattle.std.specs.Str.{bytes_eq, encode_utf8_all};

@@ -1,3 +1,5 @@
+//! The names of tags and of attributes.
+
 ghost use Rattle.std.specs.Prelude.{◌≡◌};
 ghost use Rattle.page_engine.specs.Names.{is_lower, is_digit, is_tag_character, is_name_character, is_tag, is_attribute_name};
 ghost use Rattle.std.specs.List.{list_all};

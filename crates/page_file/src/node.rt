@@ -1,3 +1,5 @@
+//! One node that an object's members spell, its handlers apart.
+
 ghost use Rattle.std.specs.Prelude.{◌≡◌, IfOk, IfSome, is_some, true};
 ghost use Rattle.std.specs.Option.{option_map};
 ghost use Rattle.page_engine.specs.Fitting.{is_box_or_none, is_layer};

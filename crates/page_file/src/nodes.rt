@@ -1,6 +1,8 @@
-ghost use Rattle.std.specs.Prelude.{◌≡◌, ◌<◌, ◌≤◌, IfOk, IfErr, OnOk, None, length};
-ghost use Rattle.page_file.specs.NodesRead.{AreFlags, AreDepths, IsNext, IsNextFault};
-ghost use Rattle.page_file.specs.NodesSpelled.{AreNodesOf, nodes_fault, IsNodesCause};
+//! The nodes that a list of values spells.
+
+ghost use Rattle.std.specs.Prelude.{◌≡◌, IfOk, IfErr, Ok};
+ghost use Rattle.page_file.specs.NodeRows.{next_node, AreFlags, AreDepths, IsNext};
+ghost use Rattle.page_file.specs.Rows.{rows, IsFaultOf, IsNextFault};
 
 use crate::handlers::handlers;
 use crate::node::node;
@@ -19,11 +21,10 @@ fn next_node(
     flags: &[bool],
     value: &Json,
 ) -> Result<(NodeDef, u32), PageFault>
-    requires few { length defs.now ≤ 50000 }
     requires flags { AreFlags defs.now flags.now }
     requires depths { AreDepths defs.now depths.now }
     ensures next { IfOk result (λ p. IsNext defs.now value.now p.0 p.1) }
-    ensures fault { IfErr result (IsNextFault defs.now value.now) }
+    ensures fault { IfErr result (IsNextFault defs.now (next_node defs.now value.now)) }
 {
     let row = defs.len() as u32;
     let Json::Object(members) = value else {
@@ -57,10 +58,8 @@ fn next_node(
 /// `Bad` with the first node at which something is wrong: `Node`, else `Depth` where it stands
 /// deeper than 200, else `Nodes` where it is the 50,001st, else `Effect` for its handlers.
 pub fn read_nodes(alloc: Global, values: &[Json]) -> Result<NodeDefList, PageFault>
-    requires { 0 < length values.now }
-    ensures read { IfOk result (AreNodesOf values.now) }
-    ensures faultless { OnOk result (nodes_fault values.now ≡ None) }
-    ensures cause { IfErr result (IsNodesCause values.now) }
+    ensures read { IfOk result (λ nodes. rows next_node values.now ≡ Ok nodes) }
+    ensures cause { IfErr result (IsFaultOf (rows next_node values.now)) }
 {
     let mut defs = Vec::new(alloc);
     let mut depths = Vec::new(alloc);

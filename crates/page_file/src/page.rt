@@ -1,9 +1,9 @@
-ghost use Rattle.std.specs.Prelude.{◌≡◌, ℕ, List, IfOk, IfErr, OnOk, None};
+//! The page that the value of its file spells.
+
+ghost use Rattle.std.specs.Prelude.{◌≡◌, IfOk, IfErr, Ok};
 ghost use Rattle.page_engine.specs.Pages.{IsLawfulPage};
-ghost use Rattle.page_engine.specs.declared.page_def.PageDef.{PageDef};
-ghost use Rattle.wd_json.specs.declared.value.Json.{Json};
-ghost use Rattle.page_file.specs.PageFaults.{page_fault, IsPageCause};
-ghost use Rattle.page_file.specs.PageSpelled.{IsPageOf};
+ghost use Rattle.page_file.specs.PageSpelled.{page_of};
+ghost use Rattle.page_file.specs.Rows.{IsFaultOf};
 
 use crate::nodes::read_nodes;
 use crate::page_fault::PageFault;
@@ -21,10 +21,9 @@ use wd_json::{Json, WdText};
 /// `Bad` with the first thing that is wrong: `Shape` at 0 for the top object, then the nodes by
 /// their places, then the timers, then the scripts. `Memory` where there is no memory for it.
 pub(crate) fn read_page(alloc: Global, value: &Json, address: &WdText) -> Result<PageDef, PageFault>
-    ensures page { IfOk result (IsPageOf address.now value.now) }
+    ensures page { IfOk result (λ page. page_of address.now value.now ≡ Ok page) }
     ensures lawful { IfOk result IsLawfulPage }
-    ensures faultless { OnOk result (page_fault value.now ≡ None) }
-    ensures cause { IfErr result (IsPageCause value.now) }
+    ensures cause { IfErr result (IsFaultOf (page_of address.now value.now)) }
 {
     let Some(parts) = parts_of(value) else {
         return Err(PageFault::Bad {
@@ -45,9 +44,3 @@ pub(crate) fn read_page(alloc: Global, value: &Json, address: &WdText) -> Result
         load: parts.load,
     })
 }
-
-/// A law: the value has no fault exactly if it spells a lawful page, at whatever address.
-pub fn faultless_values_are_pages()
-    ensures pages { (address : List ℕ) (value : Json) → page_fault value ≡ None → (page : PageDef) × IsPageOf address value page × IsLawfulPage page }
-    ensures faultless { (address : List ℕ) (value : Json) (page : PageDef) → IsPageOf address value page → IsLawfulPage page → page_fault value ≡ None }
-{}

@@ -1,3 +1,5 @@
+//! Why a value gives no page.
+
 ghost use Rattle.std.specs.Prelude.{◌≡◌};
 ghost use Rattle.page_file.specs.declared.page_fault.PageFault.TheVariants.{Memory as OutOfMemory};
 

@@ -1,3 +1,5 @@
+//! The pages of a site with their places by address.
+
 ghost use Rattle.std.specs.Prelude.{◌≡◌};
 ghost use Rattle.page_engine.specs.Links.{target_at};
 ghost use Rattle.page_file.specs.Index.{IsPageIndex};

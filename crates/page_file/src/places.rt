@@ -1,3 +1,5 @@
+//! An index of places by address.
+
 ghost use Rattle.std.specs.Prelude.{◌≡◌, ℕ, List, true, false, Some, None, IfOk, is_some};
 ghost use Rattle.std.specs.HashMap.{get_by_text, IsEmpty};
 ghost use Rattle.std.specs.Map.{update};

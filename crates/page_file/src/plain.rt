@@ -1,15 +1,18 @@
-ghost use Rattle.std.specs.Prelude.{◌≡◌, IfSome, true};
+//! The effects without lists inside, by the rows that spell them.
+
+ghost use Rattle.std.specs.Prelude.{◌≡◌, IfOk, IfSome, true};
 ghost use Rattle.std.specs.Option.{option_map};
 ghost use Rattle.page_engine.specs.Fitting.{fits_at};
 ghost use Rattle.page_engine.specs.declared.place.Place.{Place};
+ghost use Rattle.page_file.specs.Spelled.{one_node, node_and, one_text, insert_row, attr_row, set_at, plain_row};
+ghost use Rattle.page_file.specs.Values.{text_of, optional_text_of};
 ghost use Rattle.page_file.specs.Words.{row_of};
-ghost use Rattle.page_file.specs.Spelled.{one_node, node_and, one_text, plain_row};
-ghost use Rattle.page_file.specs.declared.word.Word.TheVariants.{Remove, Insert, Pixels, Layer, Hidden, Checked, Focus};
 
 use crate::values::{as_bool, as_list, as_number, as_optional_box, as_text, as_within};
 use crate::word::{Word, as_word};
 use page_engine::Effect;
-use wd_json::{Json, WdText};
+use std::alloc::Global;
+use wd_json::{Json, Memory, WdText};
 
 /// The list that begins with a word: the word, and the values after it.
 pub fn as_row(value: &Json) -> Option<(Word, &[Json])>
@@ -18,6 +21,26 @@ pub fn as_row(value: &Json) -> Option<(Word, &[Json])>
     match as_list(value)? {
         [head, rest @ ..] => Some((as_word(head)?, rest)),
         _ => None,
+    }
+}
+
+/// A copy of the text that a value is.
+pub fn text(alloc: Global, value: &Json) -> Result<Option<WdText>, Memory>
+    ensures { IfOk result (λ t. t ≡ text_of value.now) }
+{
+    match value {
+        Json::Text(text) => Ok(Some(text.copy(alloc)?)),
+        _ => Ok(None),
+    }
+}
+
+// A copy of a text, or null.
+fn optional_text(alloc: Global, value: &Json) -> Result<Option<Option<WdText>>, Memory>
+    ensures { IfOk result (λ text. text ≡ optional_text_of value.now) }
+{
+    match value {
+        Json::Null => Ok(Some(None)),
+        _ => Ok(text(alloc, value)?.map(|text| Some(text))),
     }
 }
 
@@ -32,7 +55,7 @@ fn one_node(values: &[Json]) -> Option<u32>
 }
 
 // A node, and one value more.
-pub fn node_and(values: &[Json]) -> Option<(u32, &Json)>
+fn node_and(values: &[Json]) -> Option<(u32, &Json)>
     ensures { option_map (λ p. (p.0, p.1.now)) result ≡ node_and values.now }
 {
     match values {
@@ -42,35 +65,17 @@ pub fn node_and(values: &[Json]) -> Option<(u32, &Json)>
 }
 
 // One text.
-pub fn one_text(values: &[Json]) -> Option<&WdText>
-    ensures { option_map (λ t. t.now) result ≡ one_text values.now }
+fn one_text(alloc: Global, values: &[Json]) -> Result<Option<WdText>, Memory>
+    ensures { IfOk result (λ t. t ≡ one_text values.now) }
 {
     match values {
-        [text] => as_text(text),
-        _ => None,
+        [value] => text(alloc, value),
+        _ => Ok(None),
     }
 }
 
-pub fn remove(values: &[Json]) -> Option<Effect>
-    ensures row { result ≡ plain_row Remove values.now }
-    ensures fits { (place : Place) → IfSome result (λ e. fits_at e place ≡ true) }
-{
-    Some(Effect::Remove {
-        node: one_node(values)?,
-    })
-}
-
-pub fn focus(values: &[Json]) -> Option<Effect>
-    ensures row { result ≡ plain_row Focus values.now }
-    ensures fits { (place : Place) → IfSome result (λ e. fits_at e place ≡ true) }
-{
-    Some(Effect::Focus {
-        node: one_node(values)?,
-    })
-}
-
-pub fn insert(values: &[Json]) -> Option<Effect>
-    ensures row { result ≡ plain_row Insert values.now }
+fn insert(values: &[Json]) -> Option<Effect>
+    ensures row { result ≡ insert_row values.now }
     ensures fits { (place : Place) → IfSome result (λ e. fits_at e place ≡ true) }
 {
     let [node, parent, place] = values else {
@@ -83,46 +88,55 @@ pub fn insert(values: &[Json]) -> Option<Effect>
     })
 }
 
-pub fn pixels(values: &[Json]) -> Option<Effect>
-    ensures row { result ≡ plain_row Pixels values.now }
-    ensures fits { (place : Place) → IfSome result (λ e. fits_at e place ≡ true) }
+fn attr(alloc: Global, values: &[Json]) -> Result<Option<Effect>, Memory>
+    ensures row { IfOk result (λ e. e ≡ attr_row values.now) }
+    ensures fits { (place : Place) → IfOk result (λ e. IfSome e (λ e. fits_at e place ≡ true)) }
 {
-    let (node, value) = node_and(values)?;
-    Some(Effect::Pixels {
-        node,
-        pixels: as_optional_box(value)?,
-    })
+    let [node, name, value] = values else {
+        return Ok(None);
+    };
+    let (Some(node), Some(name)) = (as_number(node), as_text(name)) else {
+        return Ok(None);
+    };
+    let Some(value) = optional_text(alloc, value)? else {
+        return Ok(None);
+    };
+    let name = name.copy(alloc)?;
+    Ok(Some(Effect::Attr { node, name, value }))
 }
 
-pub fn layer(values: &[Json]) -> Option<Effect>
-    ensures row { result ≡ plain_row Layer values.now }
-    ensures fits { (place : Place) → IfSome result (λ e. fits_at e place ≡ true) }
+// What is set at a node.
+fn set_at(alloc: Global, word: Word, node: u32, value: &Json) -> Result<Option<Effect>, Memory>
+    ensures row { IfOk result (λ e. e ≡ set_at word node value.now) }
+    ensures fits { (place : Place) → IfOk result (λ e. IfSome e (λ e. fits_at e place ≡ true)) }
 {
-    let (node, value) = node_and(values)?;
-    Some(Effect::Layer {
-        node,
-        layer: as_within(value, 1000)?,
-    })
+    match word {
+        Word::Text => Ok(text(alloc, value)?.map(|text| Effect::Text { node, text })),
+        Word::Pixels => Ok(as_optional_box(value).map(|pixels| Effect::Pixels { node, pixels })),
+        Word::Layer => Ok(as_within(value, 1000).map(|layer| Effect::Layer { node, layer })),
+        Word::Hidden => Ok(as_bool(value).map(|hidden| Effect::Hidden { node, hidden })),
+        Word::Value => Ok(text(alloc, value)?.map(|text| Effect::Value { node, text })),
+        Word::Checked => Ok(as_bool(value).map(|checked| Effect::Checked { node, checked })),
+        _ => Ok(None),
+    }
 }
 
-pub fn hidden(values: &[Json]) -> Option<Effect>
-    ensures row { result ≡ plain_row Hidden values.now }
-    ensures fits { (place : Place) → IfSome result (λ e. fits_at e place ≡ true) }
+/// An effect without lists inside.
+pub fn plain_effect(alloc: Global, word: Word, values: &[Json]) -> Result<Option<Effect>, Memory>
+    ensures row { IfOk result (λ e. e ≡ plain_row word values.now) }
+    ensures fits { (place : Place) → IfOk result (λ e. IfSome e (λ e. fits_at e place ≡ true)) }
 {
-    let (node, value) = node_and(values)?;
-    Some(Effect::Hidden {
-        node,
-        hidden: as_bool(value)?,
-    })
-}
-
-pub fn checked(values: &[Json]) -> Option<Effect>
-    ensures row { result ≡ plain_row Checked values.now }
-    ensures fits { (place : Place) → IfSome result (λ e. fits_at e place ≡ true) }
-{
-    let (node, value) = node_and(values)?;
-    Some(Effect::Checked {
-        node,
-        checked: as_bool(value)?,
-    })
+    match word {
+        Word::Remove => Ok(one_node(values).map(|node| Effect::Remove { node })),
+        Word::Insert => Ok(insert(values)),
+        Word::Attr => attr(alloc, values),
+        Word::Focus => Ok(one_node(values).map(|node| Effect::Focus { node })),
+        Word::Go => Ok(one_text(alloc, values)?.map(|address| Effect::Go { address })),
+        Word::Open => Ok(one_text(alloc, values)?.map(|address| Effect::Open { address })),
+        Word::Prompt | Word::After => Ok(None),
+        _ => match node_and(values) {
+            Some((node, value)) => set_at(alloc, word, node, value),
+            None => Ok(None),
+        },
+    }
 }

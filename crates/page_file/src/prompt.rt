@@ -1,3 +1,5 @@
+//! What a prompt is asked with.
+
 ghost use Rattle.std.specs.Prelude.{◌≡◌};
 ghost use Rattle.std.specs.Option.{option_map};
 ghost use Rattle.page_file.specs.Spelled.{asked_in};

@@ -1,10 +1,11 @@
+//! One file of a site, read as bytes, as a value, as a listing or as a page.
+
 ghost use Rattle.std.specs.Prelude.{◌≡◌, ◌≤◌, ◌+◌, ◌⊎◌, Some, Option, IsTrue, IfOk, IfErr, OnOk, length};
 ghost use Rattle.page_engine.specs.Pages.{IsLawfulPage};
-ghost use Rattle.page_file.specs.First.{Fault};
 ghost use Rattle.page_file.specs.Index.{IsIndexOf};
-ghost use Rattle.page_file.specs.Listings.{IsListingOf, listing_fault};
-ghost use Rattle.page_file.specs.PageFaults.{page_fault};
-ghost use Rattle.page_file.specs.SiteFiles.{files_limit, file_limit, bytes_at, size_at, IsFileOf, IsListingFile, IsPageFile, IsFileFault, IsReadCause};
+ghost use Rattle.page_file.specs.Listings.{IsLawfulListing};
+ghost use Rattle.page_file.specs.Rows.{Fault};
+ghost use Rattle.page_file.specs.SiteFiles.{files_limit, file_limit, bytes_at, size_at, IsFileOf, IsListingFile, IsPageFile, listing_fault, page_fault, IsFileFault, IsReadCause};
 ghost use Rattle.wd_json.specs.declared.value.Json.{Json as AnyJson};
 
 use crate::listing::{Entry, Listing};
@@ -48,7 +49,8 @@ fn read_bytes<F: Files>(
     ensures fits { IfOk result (λ bytes. length bytes ≤ file_limit) }
     ensures size { IfOk result (λ bytes. total.new ≡ total.old + length bytes) }
     ensures within { OnOk result (total.new ≤ files_limit) }
-    ensures fault { IfErr result (λ fault. IsTrue F.tells → (wrong : AnyJson → Option Fault) → IsFileFault (F.files files.old) name.now total.old wrong fault) }
+    ensures fault { IfErr result (λ fault. IsTrue F.tells → (wrong : AnyJson → Option Fault)
+        → IsFileFault (F.files files.old) name.now total.old wrong fault) }
     ensures made { OnOk result (F.made files.new ≡ F.made files.old + 1) }
     ensures kept { OnOk result (F.faults files.new ≡ F.faults files.old) }
     ensures cause { IfErr result (IsReadCause (F.faults files.old) (F.faults files.new)) }
@@ -78,7 +80,8 @@ fn read_value<F: Files>(
     ensures file { IfOk result (λ value. IsTrue F.tells → IsFileOf (F.files files.old) name.now value) }
     ensures size { OnOk result (IsTrue F.tells → total.new ≡ total.old + size_at (F.files files.old) name.now) }
     ensures within { OnOk result (total.new ≤ files_limit) }
-    ensures fault { IfErr result (λ fault. IsTrue F.tells → (wrong : AnyJson → Option Fault) → IsFileFault (F.files files.old) name.now total.old wrong fault) }
+    ensures fault { IfErr result (λ fault. IsTrue F.tells → (wrong : AnyJson → Option Fault)
+        → IsFileFault (F.files files.old) name.now total.old wrong fault) }
     ensures made { OnOk result (F.made files.new ≡ F.made files.old + 1) }
     ensures kept { OnOk result (F.faults files.new ≡ F.faults files.old) }
     ensures cause { IfErr result (IsReadCause (F.faults files.old) (F.faults files.new)) }
@@ -102,7 +105,7 @@ pub fn read_listing_file<F: Files>(
 ) -> Result<(Listing, Places), SiteFault>
     requires { total.old ≤ files_limit }
     ensures listing { IfOk result (λ p. IsTrue F.tells → IsListingFile (F.files files.old) name.now p.0) }
-    ensures lists { IfOk result (λ p. (value : AnyJson) × IsListingOf value p.0) }
+    ensures lawful { IfOk result (λ p. IsLawfulListing p.0) }
     ensures index { IfOk result (λ p. IsIndexOf p.0.entries p.1) }
     ensures size { OnOk result (IsTrue F.tells → total.new ≡ total.old + size_at (F.files files.old) name.now) }
     ensures within { OnOk result (total.new ≤ files_limit) }
@@ -133,7 +136,7 @@ pub fn read_page_file<F: Files>(
     ensures address { IfOk result (λ page. page.address ≡ entry.now.address) }
     ensures size { OnOk result (IsTrue F.tells → total.new ≡ total.old + size_at (F.files files.old) entry.now.file) }
     ensures within { OnOk result (total.new ≤ files_limit) }
-    ensures fault { IfErr result (λ fault. IsTrue F.tells → IsFileFault (F.files files.old) entry.now.file total.old page_fault fault) }
+    ensures fault { IfErr result (λ fault. IsTrue F.tells → IsFileFault (F.files files.old) entry.now.file total.old (page_fault entry.now) fault) }
     ensures made { OnOk result (F.made files.new ≡ F.made files.old + 1) }
     ensures kept { OnOk result (F.faults files.new ≡ F.faults files.old) }
     ensures cause { IfErr result (IsReadCause (F.faults files.old) (F.faults files.new)) }

@@ -1,7 +1,11 @@
-ghost use Rattle.std.specs.Prelude.{◌≡◌, ◌≤◌, IfOk, IfErr, IfSome, length};
-ghost use Rattle.std.specs.Option.{option_map};
+//! The listing that the value of a site's file spells.
+
+ghost use Rattle.std.specs.Prelude.{◌≡◌, ◌≤◌, Ok, IfOk, IfErr, IfSome, length};
+ghost use Rattle.std.specs.Option.{option_map, option_and_then};
 ghost use Rattle.page_file.specs.Index.{IsIndexOf};
-ghost use Rattle.page_file.specs.Listings.{values_in, start_in, top_of, start_at, IsListingOf, IsListingCause};
+ghost use Rattle.page_file.specs.Listings.{top_in, top_of, start_at, listing_of};
+ghost use Rattle.page_file.specs.Members.{object_of};
+ghost use Rattle.page_file.specs.Rows.{IsFaultOf};
 
 use crate::entries::{own_address, read_entries};
 use crate::listing::{Entry, Listing};
@@ -11,30 +15,11 @@ use crate::places::{Places, place_of};
 use crate::values::{as_list, as_text};
 use crate::why::Why;
 use std::alloc::Global;
-use wd_json::{Json, JsonMap, Memory, WdText};
+use wd_json::{Json, Memory, WdText};
 
-fn values(members: &JsonMap) -> Option<&[Json]>
-    ensures same { option_map (λ vs. vs.now) result ≡ values_in members.now }
-    ensures few { IfSome result (λ vs. length vs.now ≤ 1000) }
-{
-    let values = as_list(members.get("pages")?)?;
-    if 1 <= values.len() && values.len() <= 1000 {
-        Some(values)
-    } else {
-        None
-    }
-}
-
-fn start(members: &JsonMap) -> Option<&WdText>
-    ensures { option_map (λ t. t.now) result ≡ start_in members.now }
-{
-    as_text(members.get("start")?)
-}
-
-// The text of the start, and the values of the entries.
-fn top(value: &Json) -> Option<(&WdText, &[Json])>
-    ensures same { option_map (λ t. (t.0.now, t.1.now)) result ≡ top_of value.now }
-    ensures few { IfSome result (λ t. length t.1.now ≤ 1000) }
+// The text of the start, and the values of the entries, of which there may be none or too many.
+fn top_in(value: &Json) -> Option<(&WdText, &[Json])>
+    ensures { option_map (λ t. (t.0.now, t.1.now)) result ≡ option_and_then top_in (object_of value.now) }
 {
     let Json::Object(members) = value else {
         return None;
@@ -42,7 +27,20 @@ fn top(value: &Json) -> Option<(&WdText, &[Json])>
     if !has_only(&["pages", "start", "wdsite"], members) || !is_version("wdsite", members) {
         return None;
     }
-    Some((start(members)?, values(members)?))
+    let start = as_text(members.get("start")?)?;
+    Some((start, as_list(members.get("pages")?)?))
+}
+
+fn top(value: &Json) -> Option<(&WdText, &[Json])>
+    ensures same { option_map (λ t. (t.0.now, t.1.now)) result ≡ top_of value.now }
+    ensures few { IfSome result (λ t. length t.1.now ≤ 1000) }
+{
+    let (start, values) = top_in(value)?;
+    if values.is_empty() || values.len() > 1000 {
+        None
+    } else {
+        Some((start, values))
+    }
 }
 
 // The place of the page that the text names.
@@ -68,9 +66,9 @@ fn start_place(
 /// entry that isn't an address and a file's name, or whose address an earlier one has; else `Address` at the
 /// number of pages where the start is none of them.
 pub fn read_listing(alloc: Global, value: &Json) -> Result<(Listing, Places), PageFault>
-    ensures listing { IfOk result (λ p. IsListingOf value.now p.0) }
+    ensures listing { IfOk result (λ p. listing_of value.now ≡ Ok p.0) }
     ensures index { IfOk result (λ p. IsIndexOf p.0.entries p.1) }
-    ensures cause { IfErr result (IsListingCause value.now) }
+    ensures cause { IfErr result (IsFaultOf (listing_of value.now)) }
 {
     let Some((text, values)) = top(value) else {
         return Err(PageFault::Bad {

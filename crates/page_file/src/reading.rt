@@ -1,18 +1,20 @@
+//! The effects that a value spells.
+
 ghost use Rattle.std.specs.Prelude.{◌≡◌, IfOk, IfErr, IfSome, None, Some, true};
 ghost use Rattle.page_engine.specs.Fitting.{anywhere, timed, answering, fits_at, fit_at};
 ghost use Rattle.page_engine.specs.declared.place.Place.{Place};
-ghost use Rattle.page_file.specs.Spelled.{plain_row, prompt_row, timed_row, after_row, effect_row, answer_effect, timed_effect, effect_of, all_in, effects_in};
+ghost use Rattle.page_file.specs.Spelled.{prompt_row, timed_row, after_row, effect_row, answer_effect, timed_effect, effect_of, all_in, effects_in};
 ghost use Rattle.page_file.specs.Causes.{IsCause};
 
+use crate::each::{Spelling, list};
 use crate::fault::EffectFault;
-use crate::plain::{self, as_row};
+use crate::plain::{as_row, plain_effect};
 use crate::prompt::asked;
-use crate::texts;
 use crate::values::as_wait;
 use crate::word::Word;
 use page_engine::{Effect, EffectList};
 use std::alloc::Global;
-use wd_json::{Json, Memory, WdList};
+use wd_json::{Json, Memory};
 
 /// The list of effects that the value spells: a list of lists, each a word and what it takes. In a
 /// handler's or a script's list any effect may stand, in that of a timer or of an `after` all but
@@ -32,55 +34,25 @@ pub fn effects_of(alloc: Global, value: &Json) -> Result<EffectList, EffectFault
     }
 }
 
-/// An effect without lists inside.
-fn plain_effect(alloc: Global, word: Word, values: &[Json]) -> Result<Option<Effect>, Memory>
-    ensures row { IfOk result (λ e. e ≡ plain_row word values.now) }
-    ensures fits { (place : Place) → IfOk result (λ e. IfSome e (λ e. fits_at e place ≡ true)) }
-{
-    match word {
-        Word::Remove => Ok(plain::remove(values)),
-        Word::Insert => Ok(plain::insert(values)),
-        Word::Attr => texts::attr(alloc, values),
-        Word::Text => texts::text(alloc, values),
-        Word::Pixels => Ok(plain::pixels(values)),
-        Word::Layer => Ok(plain::layer(values)),
-        Word::Hidden => Ok(plain::hidden(values)),
-        Word::Value => texts::value(alloc, values),
-        Word::Checked => Ok(plain::checked(values)),
-        Word::Focus => Ok(plain::focus(values)),
-        Word::Go => texts::go(alloc, values),
-        Word::Open => texts::open(alloc, values),
-        Word::Prompt | Word::After => Ok(None),
-    }
-}
-
 // ---- in the lists of a prompt
 
-fn answer_effect(alloc: Global, value: &Json) -> Result<Option<Effect>, Memory>
-    ensures row { IfOk result (λ e. e ≡ answer_effect value.now) }
-    ensures fits { IfOk result (λ e. IfSome e (λ e. fits_at e answering ≡ true)) }
-{
-    let Some((word, values)) = as_row(value) else {
-        return Ok(None);
-    };
-    plain_effect(alloc, word, values)
-}
+struct AnswerEffect;
 
-fn answer_effects(alloc: Global, value: &Json) -> Result<Option<EffectList>, Memory>
-    ensures list { IfOk result (λ es. es ≡ all_in answer_effect value.now) }
-    ensures fit { IfOk result (λ es. IfSome es (λ es. fit_at answering es ≡ true)) }
-{
-    let Json::List(values) = value else {
-        return Ok(None);
-    };
-    let mut effects = Vec::with_capacity(alloc, values.len())?;
-    for item in values.as_slice() {
-        let Some(effect) = answer_effect(alloc, item)? else {
-            return Ok(None);
-        };
-        effects.push(effect)?;
+impl Spelling for AnswerEffect {
+    type Value = Json;
+
+    type Item = Effect;
+
+    ghost spelled = { answer_effect };
+
+    ghost fits = { λ effect. fits_at effect answering };
+
+    fn read(alloc: Global, value: &Json) -> Result<Option<Effect>, Memory> {
+        match as_row(value) {
+            Some((word, values)) => plain_effect(alloc, word, values),
+            None => Ok(None),
+        }
     }
-    Ok(Some(WdList::from_vec(effects)))
 }
 
 // ---- in a timer, and in an `after`
@@ -93,10 +65,10 @@ fn prompt(alloc: Global, values: &[Json]) -> Result<Option<Effect>, Memory>
     let Some((kind, text, answer, accepted, dismissed)) = asked(values) else {
         return Ok(None);
     };
-    let Some(accepted) = answer_effects(alloc, accepted)? else {
+    let Some(accepted) = list::<AnswerEffect>(alloc, accepted)? else {
         return Ok(None);
     };
-    let Some(dismissed) = answer_effects(alloc, dismissed)? else {
+    let Some(dismissed) = list::<AnswerEffect>(alloc, dismissed)? else {
         return Ok(None);
     };
     let text = text.copy(alloc)?;
@@ -120,14 +92,23 @@ fn timed_row(alloc: Global, word: Word, values: &[Json]) -> Result<Option<Effect
     }
 }
 
-fn timed_effect(alloc: Global, value: &Json) -> Result<Option<Effect>, Memory>
-    ensures row { IfOk result (λ e. e ≡ timed_effect value.now) }
-    ensures fits { IfOk result (λ e. IfSome e (λ e. fits_at e timed ≡ true)) }
-{
-    let Some((word, values)) = as_row(value) else {
-        return Ok(None);
-    };
-    timed_row(alloc, word, values)
+struct TimedEffect;
+
+impl Spelling for TimedEffect {
+    type Value = Json;
+
+    type Item = Effect;
+
+    ghost spelled = { timed_effect };
+
+    ghost fits = { λ effect. fits_at effect timed };
+
+    fn read(alloc: Global, value: &Json) -> Result<Option<Effect>, Memory> {
+        match as_row(value) {
+            Some((word, values)) => timed_row(alloc, word, values),
+            None => Ok(None),
+        }
+    }
 }
 
 /// The effects of a timer or of an `after`.
@@ -135,17 +116,7 @@ pub fn timed_effects(alloc: Global, value: &Json) -> Result<Option<EffectList>, 
     ensures list { IfOk result (λ es. es ≡ all_in timed_effect value.now) }
     ensures fit { IfOk result (λ es. IfSome es (λ es. fit_at timed es ≡ true)) }
 {
-    let Json::List(values) = value else {
-        return Ok(None);
-    };
-    let mut effects = Vec::with_capacity(alloc, values.len())?;
-    for item in values.as_slice() {
-        let Some(effect) = timed_effect(alloc, item)? else {
-            return Ok(None);
-        };
-        effects.push(effect)?;
-    }
-    Ok(Some(WdList::from_vec(effects)))
+    list::<TimedEffect>(alloc, value)
 }
 
 // ---- in a handler, and in a script
@@ -177,14 +148,23 @@ fn effect_row(alloc: Global, word: Word, values: &[Json]) -> Result<Option<Effec
     }
 }
 
-fn effect(alloc: Global, value: &Json) -> Result<Option<Effect>, Memory>
-    ensures row { IfOk result (λ e. e ≡ effect_of value.now) }
-    ensures fits { IfOk result (λ e. IfSome e (λ e. fits_at e anywhere ≡ true)) }
-{
-    let Some((word, values)) = as_row(value) else {
-        return Ok(None);
-    };
-    effect_row(alloc, word, values)
+struct HandledEffect;
+
+impl Spelling for HandledEffect {
+    type Value = Json;
+
+    type Item = Effect;
+
+    ghost spelled = { effect_of };
+
+    ghost fits = { λ effect. fits_at effect anywhere };
+
+    fn read(alloc: Global, value: &Json) -> Result<Option<Effect>, Memory> {
+        match as_row(value) {
+            Some((word, values)) => effect_row(alloc, word, values),
+            None => Ok(None),
+        }
+    }
 }
 
 /// The effects of a handler or of a script.
@@ -193,15 +173,5 @@ pub fn effects(alloc: Global, value: &Json) -> Result<Option<EffectList>, Memory
     ensures list { IfOk result (λ es. es ≡ effects_in value.now) }
     ensures fit { IfOk result (λ es. IfSome es (λ es. fit_at anywhere es ≡ true)) }
 {
-    let Json::List(values) = value else {
-        return Ok(None);
-    };
-    let mut effects = Vec::with_capacity(alloc, values.len())?;
-    for item in values.as_slice() {
-        let Some(effect) = effect(alloc, item)? else {
-            return Ok(None);
-        };
-        effects.push(effect)?;
-    }
-    Ok(Some(WdList::from_vec(effects)))
+    list::<HandledEffect>(alloc, value)
 }

@@ -1,3 +1,5 @@
+//! Rows of effects as values: a word, and what it takes.
+
 ghost use Rattle.std.specs.Prelude.{◌≡◌, [], ◌∷◌, IfOk, Some, true};
 ghost use Rattle.wd_json.specs.Json.{data_of};
 ghost use Rattle.wd_json.specs.Whole.{is_whole};
@@ -54,7 +56,8 @@ pub fn two(alloc: Global, word: Word, a: Json, b: Json) -> Result<Json, Memory>
 #[tactic(auto, using(crate::proofs::WholeValues::whole_values))]
 pub fn three(alloc: Global, word: Word, a: Json, b: Json, c: Json) -> Result<Json, Memory>
     ensures row { IfOk result (λ v. row_of v ≡ Some (word, a ∷ b ∷ c ∷ [])) }
-    ensures whole { is_whole (data_of a) ≡ true → is_whole (data_of b) ≡ true → is_whole (data_of c) ≡ true → IfOk result (λ v. is_whole (data_of v) ≡ true) }
+    ensures whole { is_whole (data_of a) ≡ true → is_whole (data_of b) ≡ true → is_whole (data_of c) ≡ true
+        → IfOk result (λ v. is_whole (data_of v) ≡ true) }
 {
     let mut row = Vec::with_capacity(alloc, 4)?;
     row.push(word_value(alloc, word)?)?;
@@ -76,7 +79,8 @@ pub fn five(
     e: Json,
 ) -> Result<Json, Memory>
     ensures row { IfOk result (λ v. row_of v ≡ Some (word, a ∷ b ∷ c ∷ d ∷ e ∷ [])) }
-    ensures whole { is_whole (data_of a) ≡ true → is_whole (data_of b) ≡ true → is_whole (data_of c) ≡ true → is_whole (data_of d) ≡ true → is_whole (data_of e) ≡ true → IfOk result (λ v. is_whole (data_of v) ≡ true) }
+    ensures whole { is_whole (data_of a) ≡ true → is_whole (data_of b) ≡ true → is_whole (data_of c) ≡ true
+        → is_whole (data_of d) ≡ true → is_whole (data_of e) ≡ true → IfOk result (λ v. is_whole (data_of v) ≡ true) }
 {
     let mut row = Vec::with_capacity(alloc, 6)?;
     row.push(word_value(alloc, word)?)?;

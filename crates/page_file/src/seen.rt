@@ -1,3 +1,5 @@
+//! The texts that were seen as keys.
+
 ghost use Rattle.std.specs.Prelude.{◌≡◌, ℕ, ◌||◌, not, List, IfOk, OnOk};
 ghost use Rattle.std.specs.BTreeSet.{contains_text};
 ghost use Rattle.std.specs.Str.{bytes_eq, chars, encode_utf8_all};

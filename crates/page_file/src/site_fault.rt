@@ -1,3 +1,5 @@
+//! Why files give no site, and the line that tells it.
+
 ghost use Rattle.std.specs.Prelude.{◌≡◌, Some};
 ghost use Rattle.page_file.specs.declared.site_fault.SiteFault.TheVariants.{Memory as OutOfMemory};
 ghost use Rattle.page_file.specs.FaultTexts.{fault_text};

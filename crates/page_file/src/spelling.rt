@@ -1,3 +1,5 @@
+//! The values that spell numbers, flags, texts, boxes and waits.
+
 ghost use Rattle.std.specs.Prelude.{◌≡◌, IfOk, Some, true};
 ghost use Rattle.page_engine.specs.Fitting.{is_within, is_up_to, is_box, is_box_or_none, is_layer, is_wait};
 ghost use Rattle.wd_json.specs.Json.{data_of};

@@ -1,16 +1,13 @@
-ghost use Rattle.std.specs.Prelude.{◌≡◌, ℕ, ◌<◌, ◌||◌, IfOk, IfErr, IfSome, length, slice_index_or, true, false};
+//! Whether a node may stand where it says, by what is kept of the nodes before it.
+
+ghost use Rattle.std.specs.Prelude.{◌≡◌, ℕ, ◌<◌, ◌||◌, IfOk, IfSome, length, slice_index_or, true, false};
 ghost use Rattle.page_engine.specs.Nodes.{is_shadow_of, may_stand, is_node, has_fields};
-ghost use Rattle.page_file.specs.Members.{object_of};
-ghost use Rattle.page_file.specs.NodeFaults.{depth_after, starts};
-ghost use Rattle.page_file.specs.NodesRead.{AreFlags, AreDepths, IsDepthChecked, IsCheckFault};
-ghost use Rattle.wd_json.specs.declared.value.Json.{Json};
+ghost use Rattle.page_file.specs.NodeRows.{depth_after, starts, depth_in, AreFlags, AreDepths};
 
 use crate::why::Why;
 use page_engine::{NodeDef, NodeKind};
+use page_tree::MAX_DEPTH;
 use wd_json::JsonMap;
-
-/// No node stands deeper.
-const MAX_DEPTH: u32 = 200;
 
 /// A page has at most so many nodes.
 const MAX_NODES: usize = 50_000;
@@ -19,7 +16,8 @@ const MAX_NODES: usize = 50_000;
 pub fn mark(flags: &mut Vec<bool>, def: &NodeDef)
     requires { IfSome def.now.up (λ up. up < length flags.old.items) }
     ensures many { length flags.new.items ≡ length flags.old.items }
-    ensures marked { (n : ℕ) → n < length flags.old.items → slice_index_or flags.new.items n false ≡ (slice_index_or flags.old.items n false || is_shadow_of n def.now) }
+    ensures marked { (n : ℕ) → n < length flags.old.items
+        → slice_index_or flags.new.items n false ≡ (slice_index_or flags.old.items n false || is_shadow_of n def.now) }
 {
     if let (NodeKind::Shadow, Some(host)) = (&def.kind, def.up) {
         flags[host as usize] = true;
@@ -46,7 +44,7 @@ fn may_stand(defs: &[NodeDef], flags: &[bool], def: &NodeDef) -> bool
 // Whether the first node is an element that stands alone and says nothing of it, and every other
 // one says where it stands.
 fn starts(defs: &[NodeDef], members: &JsonMap, def: &NodeDef) -> bool
-    ensures { (v : Json) → object_of v ≡ Some members.now → result ≡ starts defs.now v def.now }
+    ensures { result ≡ starts defs.now members.now def.now }
 {
     let says_up = members.get("up").is_some();
     if defs.is_empty() {
@@ -80,14 +78,14 @@ pub fn check(
     requires flags { AreFlags defs.now flags.now }
     requires depths { AreDepths defs.now depths.now }
     requires fields { has_fields def.now.kind def.now ≡ true }
-    ensures deep { (v : Json) → object_of v ≡ Some members.now → IfOk result (IsDepthChecked defs.now v def.now) }
-    ensures fault { (v : Json) → object_of v ≡ Some members.now → IfErr result (IsCheckFault defs.now v def.now) }
+    ensures same { result ≡ depth_in defs.now members.now def.now }
+    ensures deep { IfOk result (λ depth. depth ≡ depth_after defs.now def.now.up) }
 {
     if !starts(defs, members, def) || !may_stand(defs, flags, def) {
         return Err(Why::Node);
     }
     let depth = depth_after(defs, depths, def);
-    if depth > MAX_DEPTH {
+    if depth as usize > MAX_DEPTH {
         return Err(Why::Depth);
     }
     if defs.len() >= MAX_NODES {

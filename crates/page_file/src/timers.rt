@@ -1,8 +1,9 @@
-ghost use Rattle.std.specs.Prelude.{◌≡◌, ◌≤◌, IfOk, IfErr, IfSome, OnOk, Some, None, true, length};
-ghost use Rattle.std.specs.List.{list_all};
+//! The timers that a list of values spells.
+
+ghost use Rattle.std.specs.Prelude.{◌≡◌, ◌≤◌, IfOk, IfErr, IfSome, Ok, true, length};
 ghost use Rattle.page_engine.specs.Pages.{is_timer};
-ghost use Rattle.page_file.specs.Members.{each_of};
-ghost use Rattle.page_file.specs.Timers.{timer_in, timer_of, timers_fault, IsTimersCause};
+ghost use Rattle.page_file.specs.Rows.{rows, IsFaultOf, IsNextFault};
+ghost use Rattle.page_file.specs.Timers.{timer_in, timer_of, next_timer};
 
 use crate::members::has_only;
 use crate::page_fault::PageFault;
@@ -46,32 +47,32 @@ fn timer(alloc: Global, value: &Json) -> Result<Option<TimerDef>, Memory>
     }
 }
 
+// The next timer, after these.
+fn next_timer(alloc: Global, timers: &[TimerDef], value: &Json) -> Result<TimerDef, PageFault>
+    requires { length timers.now ≤ 1000 }
+    ensures next { IfOk result (λ timer. next_timer timers.now value.now ≡ Ok timer) }
+    ensures fault { IfErr result (IsNextFault timers.now (next_timer timers.now value.now)) }
+{
+    match timer(alloc, value)? {
+        Some(timer) if timers.len() < MAX_TIMERS => Ok(timer),
+        _ => Err(PageFault::Bad {
+            row: timers.len() as u32,
+            why: Why::Timer,
+        }),
+    }
+}
+
 /// The timers that the values spell.
 ///
 /// `Bad` with `Timer` and the place of the first value that spells none, or of the 1,001st where
 /// none before it is at fault.
 pub fn read_timers(alloc: Global, values: &[Json]) -> Result<TimerList, PageFault>
-    ensures read { IfOk result (λ timers. each_of timer_of values.now ≡ Some timers) }
-    ensures good { IfOk result (λ timers. list_all is_timer timers ≡ true) }
-    ensures few { IfOk result (λ timers. length timers ≤ 1000) }
-    ensures faultless { OnOk result (timers_fault values.now ≡ None) }
-    ensures cause { IfErr result (IsTimersCause values.now) }
+    ensures read { IfOk result (λ timers. rows next_timer values.now ≡ Ok timers) }
+    ensures cause { IfErr result (IsFaultOf (rows next_timer values.now)) }
 {
     let mut timers = Vec::new(alloc);
     for value in values {
-        let row = timers.len() as u32;
-        if timers.len() >= MAX_TIMERS {
-            return Err(PageFault::Bad {
-                row,
-                why: Why::Timer,
-            });
-        }
-        let Some(timer) = timer(alloc, value)? else {
-            return Err(PageFault::Bad {
-                row,
-                why: Why::Timer,
-            });
-        };
+        let timer = next_timer(alloc, &timers, value)?;
         timers.push(timer)?;
     }
     Ok(WdList::from_vec(timers))

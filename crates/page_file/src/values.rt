@@ -1,10 +1,12 @@
+//! The numbers, flags, texts, lists and boxes that values are.
+
 ghost use Rattle.std.specs.Prelude.{◌≡◌, ◌<◌, ◌^◌, IfSome, true};
 ghost use Rattle.std.specs.Option.{option_map};
 ghost use Rattle.page_engine.specs.Fitting.{is_within, is_up_to, is_box, is_box_or_none, is_wait};
 ghost use Rattle.page_file.specs.Values.{text_of, bool_of, list_of, number_of, optional_number_of, wait_of, within_of, whole_of, up_to_of, box_of, optional_box_of};
 
 use page_tree::PixelBox;
-use wd_json::{Json, WdText};
+use wd_json::{Json, MAX_WHOLE, WdText};
 
 pub fn as_text(value: &Json) -> Option<&WdText>
     ensures { option_map (λ t. t.now) result ≡ text_of value.now }
@@ -81,7 +83,7 @@ pub fn as_whole(value: &Json) -> Option<i64>
     ensures { result ≡ whole_of value.now }
 {
     match value {
-        Json::Int(n) if n.unsigned_abs() <= 9_007_199_254_740_991 => Some(*n),
+        Json::Int(n) if n.unsigned_abs() <= MAX_WHOLE as u64 => Some(*n),
         _ => None,
     }
 }

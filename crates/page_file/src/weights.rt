@@ -1,3 +1,5 @@
+//! The first page that is too heavy with its frames.
+
 ghost use Rattle.std.specs.Prelude.{◌≡◌, ◌≤◌, List, All, IfOk, map, nat_lt};
 ghost use Rattle.std.specs.List.{position};
 ghost use Rattle.page_engine.specs.declared.page_def.PageDef.{PageDef};

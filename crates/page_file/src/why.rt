@@ -1,3 +1,5 @@
+//! What is wrong with a site or a page of it.
+
 ghost use Rattle.std.specs.Prelude.{Some};
 ghost use Rattle.page_file.specs.FaultTexts.{why_text};
 

@@ -1,3 +1,5 @@
+//! The words with which effects begin, and the kinds of prompts.
+
 ghost use Rattle.std.specs.Prelude.{◌≡◌};
 ghost use Rattle.std.specs.Option.{option_map};
 ghost use Rattle.page_file.specs.Words.{word_text, word_with, word_of, kind_text, kind_with, kind_of};

@@ -1,3 +1,5 @@
+//! The value that spells a list of effects.
+
 ghost use Rattle.std.specs.Prelude.{◌≡◌, List, IfOk, Some, true};
 ghost use Rattle.page_engine.specs.Fitting.{anywhere, timed, answering, is_wait, fits_at, fit_at};
 ghost use Rattle.page_engine.specs.declared.effect.Effect.{Effect};

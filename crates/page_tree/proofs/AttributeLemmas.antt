@@ -1,19 +1,10 @@
 -- The attribute with a name, by the place where it stands.
-use Rattle.std.proofs.Common.{◌≡◌, ℕ, zero, suc, ◌<◌, ◌≤◌, Bool, true, false, cond, List, [], ◌∷◌, ◌++◌, Some, None, length, set, get_or, refl, sym, ap, ◌∙◌, arith}
+use Rattle.std.proofs.Common.{◌≡◌, ℕ, zero, suc, ◌<◌, ◌≤◌, Bool, true, false, cond, List, [], ◌∷◌, ◌++◌, Some, None, length, set, get_or, refl, sym, ap, arith}
 use Rattle.std.specs.Prelude.{position, nat_lt}
 use Rattle.std.specs.List.{position_or_len}
 use Rattle.std.proofs.lemmas.List.Quantifiers.{position-Some}
 use Rattle.std.proofs.lemmas.List.Sums.{fails_before_first}
-use Rattle.std.specs.Str.{chars, bytes_eq, encode_utf8_all}
-use Rattle.std.proofs.lemmas.Bool.Decides.{same_from_decides, Decides-like}
-use Rattle.std.proofs.lemmas.Slice.Eq.{bytes_eq-Decides}
 use Rattle.page_tree.specs.Attributes.{Attributes, has_name, value_of, with_value}
-
--- two texts have the same bytes exactly if they have the same characters
-pub same_texts : (a b : List ℕ) → encode_utf8_all (chars a) ≡ a → encode_utf8_all (chars b) ≡ b → bytes_eq a b ≡ bytes_eq (chars a) (chars b)
-same_texts a b left right =
-    same_from_decides (bytes_eq a b) (bytes_eq (chars a) (chars b)) (bytes_eq-Decides a b)
-    (Decides-like (bytes_eq (chars a) (chars b)) (λ e. sym left ∙ ap encode_utf8_all e ∙ right) (λ e. ap chars e) (bytes_eq-Decides (chars a) (chars b)))
 
 -- the first attribute with the name is the one at place i
 pub record IsFirst (name : List ℕ) (attributes : Attributes) (i : ℕ) (d : List ℕ × List ℕ) : Type 0 where

@@ -5,3 +5,4 @@ pub mod DocumentState
 pub mod Faults
 pub mod Inside
 pub mod Display
+pub mod Texts

@@ -1,3 +1,5 @@
+//! What stands above a node, through hosts, and how deep nodes may stand.
+
 ghost use Rattle.std.specs.Prelude.{◌≡◌, ◌<◌, false, Some, length, slice_set};
 ghost use Rattle.page_tree.specs.Places.{lineage, contains, depth as depth_of, all_shallow, below, fits_levels as levels_fit};
 ghost use Rattle.page_tree.specs.Inside.{rows_of, ups_of, kids_lists, shadows_of};

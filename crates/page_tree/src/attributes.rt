@@ -1,3 +1,5 @@
+//! The attributes of a node, in the order in which they were first set.
+
 ghost use Rattle.std.specs.Prelude.{◌≡◌, [], position, OnOk, OnErr};
 ghost use Rattle.std.specs.Str.{chars, bytes_eq};
 ghost use Rattle.std.specs.Option.{option_copied, option_map};
@@ -70,7 +72,7 @@ impl Attributes {
     pub fn remove(&mut self, name: &str)
         ensures { self.new ≡ without_name (chars name.now) self.old }
     {
-        self.entries.retain(|entry| !is_same(&entry.0, name));
+        self.entries.retain(|entry| !entry.0.is(name));
     }
 
     /// Sets the attribute, or takes it away where there is no value. After `Memory` the attributes
@@ -92,15 +94,6 @@ impl Attributes {
     fn place(&self, name: &str) -> Option<usize>
         ensures { result ≡ position (has_name (chars name.now)) self.now }
     {
-        self.entries
-            .iter()
-            .position(|entry| is_same(&entry.0, name))
+        self.entries.iter().position(|entry| entry.0.is(name))
     }
-}
-
-/// Whether the two have the same characters.
-pub fn is_same(text: &WdText, other: &str) -> bool
-    ensures { result ≡ bytes_eq text.now (chars other.now) }
-{
-    text.as_str() == other
 }

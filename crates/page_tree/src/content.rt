@@ -1,3 +1,5 @@
+//! What a node is, apart from where it stands.
+
 ghost use Rattle.std.specs.Prelude.{◌≡◌, IfOk};
 ghost use Rattle.std.specs.Str.{chars};
 

@@ -1,3 +1,5 @@
+//! Which nodes are displayed: by boxes, by child elements, and choices by their select.
+
 ghost use Rattle.std.specs.Prelude.{◌≡◌, true, not, ◌&&◌, ◌||◌};
 ghost use Rattle.std.specs.List.{list_any};
 ghost use Rattle.page_tree.specs.Places.{lineage};

@@ -1,3 +1,5 @@
+//! The tree of a page: its nodes, how they are added, moved and removed, and their attributes.
+
 ghost use Rattle.std.specs.Prelude.{◌≡◌, ℕ, ◌<◌, false, true, None, is_some, IfOk, IfErr, OnOk, OnErr, IfSome};
 ghost use Rattle.std.specs.Str.{chars};
 ghost use Rattle.std.specs.List.{All};
@@ -5,6 +7,7 @@ ghost use Rattle.std.specs.Option.{option_copied, option_map};
 
 mod display;
 mod fields;
+mod texts;
 
 use crate::ancestors::{MAX_DEPTH, all_shallow_after, depth, is_above};
 use crate::content::Kind;

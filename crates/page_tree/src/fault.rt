@@ -1,3 +1,5 @@
+//! Why a document refused a change.
+
 ghost use Rattle.std.specs.Prelude.{◌≡◌};
 ghost use Rattle.page_tree.specs.declared.fault.TreeFault.TheVariants.{Memory as OutOfMemory};
 

@@ -1,3 +1,5 @@
+//! Boxes and points of a page, in pixels.
+
 /// A box on the page, in pixels: its left upper corner, its width and its height.
 #[derive(Clone, Copy, Debug, PartialEq, Eq)]
 pub struct PixelBox {

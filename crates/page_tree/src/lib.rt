@@ -17,6 +17,7 @@ mod node;
 mod order;
 mod shown;
 
+pub use ancestors::MAX_DEPTH;
 pub use document::Document;
 pub use fault::TreeFault;
 pub use geometry::{PixelBox, Point};

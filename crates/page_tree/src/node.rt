@@ -1,8 +1,13 @@
-ghost use Rattle.std.specs.Prelude.{◌≡◌};
-ghost use Rattle.page_tree.specs.Places.{up_of, kids_of, shadow_of};
-ghost use Rattle.page_tree.specs.Inside.{ups_of, kids_lists, shadows_of};
+//! A row of a document: a node with its parent, its children and its shadow root.
 
-use crate::content::Content;
+ghost use Rattle.std.specs.Prelude.{◌≡◌};
+ghost use Rattle.std.specs.Option.{option_copied, option_map};
+ghost use Rattle.std.specs.Str.{chars};
+ghost use Rattle.page_tree.specs.Places.{up_of, kids_of, shadow_of};
+ghost use Rattle.page_tree.specs.Inside.{rows_of, ups_of, kids_lists, shadows_of};
+ghost use Rattle.page_tree.specs.Rows.{text_of};
+
+use crate::content::{Content, Kind};
 use wd_json::NodeId;
 
 /// A node with its parent, its children and its shadow root.
@@ -41,5 +46,23 @@ pub fn shadow(nodes: &[Node], node: NodeId) -> Option<NodeId>
     match nodes.get(node.index()) {
         Some(n) => n.shadow,
         None => None,
+    }
+}
+
+/// The characters of a text; `None` for an element or a shadow root.
+pub fn text(nodes: &[Node], node: NodeId) -> Option<&str>
+    ensures { option_map chars (option_copied result) ≡ text_of (rows_of nodes.now) node }
+{
+    match nodes.get(node.index()) {
+        Some(
+            Node {
+                content: Content {
+                    kind: Kind::Text(text),
+                    ..
+                },
+                ..
+            },
+        ) => Some(text.as_str()),
+        _ => None,
     }
 }

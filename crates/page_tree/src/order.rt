@@ -1,3 +1,5 @@
+//! A node and what is below it, in document order.
+
 ghost use Rattle.std.specs.Prelude.{◌≡◌, ◌++◌, OnOk};
 ghost use Rattle.page_tree.specs.Places.{walk as walk_of};
 ghost use Rattle.page_tree.specs.Inside.{kids_lists};

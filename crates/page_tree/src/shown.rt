@@ -1,3 +1,5 @@
+//! Which nodes are shown: connected, with nothing hidden at or above them.
+
 ghost use Rattle.std.specs.Prelude.{◌≡◌, slice_get};
 ghost use Rattle.std.specs.List.{list_any};
 ghost use Rattle.std.specs.Option.{option_copied};
@@ -8,10 +10,9 @@ ghost use Rattle.page_tree.specs.Inside.{rows_of, ups_of, contents_of};
 ghost use Rattle.page_tree.specs.Display.{has_tag, has_text, is_unseen, is_hidden_input, is_concealed, hides as hides_in, is_shown as shown_in};
 
 use crate::ancestors::{MAX_DEPTH, is_above};
-use crate::attributes::is_same;
 use crate::content::{Content, Kind};
 use crate::node::{Node, parent};
-use wd_json::NodeId;
+use wd_json::{NodeId, is_same};
 
 /// Whether the node is connected, and neither it nor what is above it, through hosts, is hidden.
 pub fn is_shown(nodes: &[Node], node: NodeId) -> bool
@@ -63,7 +64,7 @@ pub fn has_tag(content: &Content, tag: &str) -> bool
     ensures { result ≡ has_tag tag.now content.now }
 {
     match &content.kind {
-        Kind::Element(own) => is_same(own, tag),
+        Kind::Element(own) => own.is(tag),
         Kind::Text(_) => false,
         Kind::Shadow => false,
     }
@@ -88,15 +89,9 @@ fn has_value(content: &Content, name: &str, text: &str) -> bool
     ensures { result ≡ has_text (chars text.now) (value_of (chars name.now) content.now.attributes) }
 {
     match content.attributes.value(name) {
-        Some(value) => has_same_characters(value, text),
+        Some(value) => is_same(value, text),
         None => false,
     }
-}
-
-fn has_same_characters(value: &str, text: &str) -> bool
-    ensures { result ≡ bytes_eq (chars value.now) (chars text.now) }
-{
-    value == text
 }
 
 fn is_unseen(content: &Content) -> bool

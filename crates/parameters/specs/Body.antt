@@ -3,8 +3,9 @@ use Rattle.std.specs.Prelude.{◌≡◌, ℕ, List, [], Bool, true, false, codes
 use Rattle.capabilities.specs.Values.{Members, same_text}
 use Rattle.endpoints.specs.declared.command.Command.{Command}
 use Rattle.endpoints.specs.Table.{row_of}
-use Rattle.parameters.specs.declared.fault.ParamFault.{ParamFault}
-use Rattle.parameters.specs.declared.fault.ParamFault.TheVariants.{Refused, Memory}
+use Rattle.wd_json.specs.declared.fault.Fault.{Fault}
+use Rattle.wd_json.specs.declared.fault.Fault.TheVariants.{Refused, Memory}
+use Rattle.wd_errors.specs.declared.code.Code.{Code}
 use Rattle.wd_errors.specs.declared.code.Code.TheVariants.{InvalidArgument}
 use Rattle.wd_json.specs.Json.{data_of}
 use Rattle.wd_json.specs.Whole.{ReadsAs, is_whole}
@@ -32,10 +33,10 @@ abbrev pub HasNone : Command → List ℕ → Type 0
 HasNone c body = (members : Members) → IsObjectFor c body members → ⊥
 
 -- for private clauses: why there is no object
-abbrev pub IsNoObject : List ℕ → ParamFault → Type 0
+abbrev pub IsNoObject : List ℕ → Fault Code → Type 0
 IsNoObject body (Refused code) = ((members : Members) → IsObjectOf body members → ⊥) × (code ≡ InvalidArgument)
 IsNoObject body Memory = Unit {0}
 
-abbrev pub LacksObject : Command → List ℕ → ParamFault → Type 0
+abbrev pub LacksObject : Command → List ℕ → Fault Code → Type 0
 LacksObject c body (Refused code) = HasNone c body × (code ≡ InvalidArgument)
 LacksObject c body Memory = Unit {0}

@@ -9,6 +9,7 @@ use Rattle.parameters.specs.declared.kind.Kind.{Kind}
 use Rattle.parameters.specs.declared.kind.Kind.TheVariants as kind
 use Rattle.wd_errors.specs.declared.code.Code.{Code}
 use Rattle.wd_errors.specs.declared.code.Code.TheVariants.{InvalidArgument, UnsupportedOperation}
+use Rattle.references.specs.Keys.{element_key}
 use Rattle.wd_json.specs.Keys.{get}
 use Rattle.wd_json.specs.declared.value.Json.{Json, out-Json}
 use Rattle.wd_json.specs.declared.value.Json.TheOpen.{Json-F}
@@ -43,7 +44,7 @@ is_address v = option_map_or is_address_text (text_of v) false
 
 -- a text stands at the element key
 abbrev pub is_reference : Members → Bool
-is_reference ms = option_map_or is_text (get (codes "element-6066-11e4-a52e-4f735466cecf") ms) false
+is_reference ms = option_map_or is_text (get element_key ms) false
 
 abbrev frame_in : Json-F Json → Bool
 frame_in Json-F.Null = true

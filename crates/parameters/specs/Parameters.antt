@@ -4,8 +4,8 @@ use Rattle.capabilities.specs.Values.{Members}
 use Rattle.endpoints.specs.declared.route.Route.{Route}
 use Rattle.parameters.specs.Body.{IsObjectFor, HasNone}
 use Rattle.parameters.specs.Refusals.{refusal_in}
-use Rattle.parameters.specs.declared.fault.ParamFault.{ParamFault}
-use Rattle.parameters.specs.declared.fault.ParamFault.TheVariants.{Refused, Memory}
+use Rattle.wd_json.specs.declared.fault.Fault.{Fault}
+use Rattle.wd_json.specs.declared.fault.Fault.TheVariants.{Refused, Memory}
 use Rattle.wd_errors.specs.declared.code.Code.{Code}
 use Rattle.wd_errors.specs.declared.code.Code.TheVariants.{InvalidArgument}
 use Rattle.wd_json.specs.declared.value.Json.{Json}
@@ -25,6 +25,6 @@ pub data IsRefusedBy (route : Route) (body : List ℕ) (code : Code) : Type 0 wh
       → refusal_in route.command members ≡ Some code → IsRefusedBy route body code
 
 -- an error is the refusal, or there was no memory
-abbrev pub IsCause : Route → List ℕ → ParamFault → Type 0
+abbrev pub IsCause : Route → List ℕ → Fault Code → Type 0
 IsCause route body (Refused code) = IsRefusedBy route body code
 IsCause route body Memory = Unit {0}

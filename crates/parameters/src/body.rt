@@ -1,3 +1,5 @@
+//! The object in which a command looks for its parameters, from the bytes of the body.
+
 ghost use Rattle.std.specs.Prelude.{◌≡◌, true, IfOk, IfErr};
 ghost use Rattle.wd_json.specs.Json.{data_of};
 ghost use Rattle.wd_json.specs.Whole.{is_whole};
@@ -9,7 +11,7 @@ use endpoints::{Command, method_of};
 use http::Method;
 use std::alloc::Global;
 use wd_errors::Code;
-use wd_json::{Json, JsonFault, JsonMap, WdBytes, read};
+use wd_json::{Json, JsonFault, JsonMap, JsonReader, WdBytes};
 
 fn is_post(command: Command) -> bool
     ensures { result ≡ posts command }
@@ -18,11 +20,15 @@ fn is_post(command: Command) -> bool
 }
 
 // The object that the bytes are the text of.
-fn read_object(alloc: Global, body: &WdBytes) -> Result<JsonMap, ParamFault>
+fn read_object(
+    alloc: Global,
+    reader: &mut JsonReader,
+    body: &WdBytes,
+) -> Result<JsonMap, ParamFault>
     ensures ok { IfOk result (IsObjectOf body.now) }
     ensures cause { IfErr result (IsNoObject body.now) }
 {
-    match read(alloc, body.as_slice()) {
+    match reader.read(alloc, body.as_slice()) {
         Ok(Json::Object(members)) => Ok(members),
         Ok(_) => Err(ParamFault::Refused(Code::InvalidArgument)),
         Err(JsonFault::Memory) => Err(ParamFault::Memory),
@@ -32,12 +38,17 @@ fn read_object(alloc: Global, body: &WdBytes) -> Result<JsonMap, ParamFault>
 
 /// The object that a command looks for its parameters in: for a POST the body's, and else an
 /// empty one, with the body unread.
-pub fn object_for(alloc: Global, command: Command, body: &WdBytes) -> Result<JsonMap, ParamFault>
+pub fn object_for(
+    alloc: Global,
+    reader: &mut JsonReader,
+    command: Command,
+    body: &WdBytes,
+) -> Result<JsonMap, ParamFault>
     ensures ok { IfOk result (IsObjectFor command body.now) }
     ensures cause { IfErr result (LacksObject command body.now) }
 {
     if is_post(command) {
-        read_object(alloc, body)
+        read_object(alloc, reader, body)
     } else {
         Ok(JsonMap::new(alloc))
     }

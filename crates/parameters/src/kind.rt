@@ -1,3 +1,5 @@
+//! The kinds of parameters, by the values that each takes.
+
 /// The kinds of parameters: which values each takes.
 #[derive(Clone, Copy, Debug, PartialEq, Eq)]
 pub enum Kind {

@@ -1,3 +1,5 @@
+//! Laws: one answer for each body, and timeouts refused exactly as they are read.
+
 ghost use Rattle.std.specs.Prelude.{◌≡◌, ℕ, List, is_some};
 ghost use Rattle.capabilities.specs.Timeouts.{timeouts_in};
 ghost use Rattle.capabilities.specs.Values.{Members};

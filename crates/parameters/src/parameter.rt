@@ -1,3 +1,5 @@
+//! The parameters of commands, with their names and kinds.
+
 ghost use Rattle.std.specs.Prelude.{◌≡◌};
 ghost use Rattle.parameters.specs.Table.{name_of, kind_of};
 

@@ -1,3 +1,5 @@
+//! The object with a command's parameters, or the first refusal.
+
 ghost use Rattle.std.specs.Prelude.{◌≡◌, true, IfOk, IfErr};
 ghost use Rattle.wd_json.specs.Json.{data_of};
 ghost use Rattle.wd_json.specs.Whole.{is_whole};
@@ -8,7 +10,7 @@ use crate::fault::ParamFault;
 use crate::refusing::refusal;
 use endpoints::Route;
 use std::alloc::Global;
-use wd_json::{Json, WdBytes};
+use wd_json::{Json, JsonReader, WdBytes};
 
 /// The object with a command's parameters (W3C WebDriver, section 6.3, "processing model"): for a
 /// POST the body's object, whole, as it is read, and for a GET or DELETE an empty object, with the
@@ -21,12 +23,17 @@ use wd_json::{Json, WdBytes};
 /// `UnsupportedOperation` where `using` is `xpath`. The parameters of New Session and Perform
 /// Actions aren't looked at. `Memory` where there is no memory for the object or for an address,
 /// or where an address comes to 4 GB.
-pub fn read_parameters(alloc: Global, route: &Route, body: &WdBytes) -> Result<Json, ParamFault>
+pub fn read_parameters(
+    alloc: Global,
+    reader: &mut JsonReader,
+    route: &Route,
+    body: &WdBytes,
+) -> Result<Json, ParamFault>
     ensures ok { IfOk result (IsParametersOf route.now body.now) }
     ensures cause { IfErr result (IsCause route.now body.now) }
     ensures whole { IfOk result (λ json. is_whole (data_of json) ≡ true) }
 {
-    let members = object_for(alloc, route.command, body)?;
+    let members = object_for(alloc, reader, route.command, body)?;
     match refusal(alloc, route.command, &members)? {
         Some(code) => Err(ParamFault::Refused(code)),
         None => Ok(Json::Object(members)),

@@ -1,3 +1,5 @@
+//! The first parameter for which a command refuses an object, and with which code.
+
 ghost use Rattle.std.specs.Prelude.{◌≡◌, IfOk};
 ghost use Rattle.parameters.specs.Kinds.{invalid_unless as unless, is_strategy as strategy, using_refusal as refusal_of_using, is_address as address, is_address_text as address_text, may_lack as lack, refusal_of as refusal_of_value};
 ghost use Rattle.parameters.specs.Refusals.{refusal_by as refusal_of_parameter, first_refusal as first_of, refusal_in as first_in};

@@ -1,3 +1,5 @@
+//! The parameters that each command looks at, and the commands that this end doesn't have.
+
 ghost use Rattle.std.specs.Prelude.{◌≡◌};
 ghost use Rattle.parameters.specs.Table.{row_of, is_unsupported as unsupported};
 

@@ -1,10 +1,12 @@
+//! Which bodies commands take and refuse, by the kinds of their parameters, as tests.
+
 use crate::{ParamFault, read_parameters};
 use endpoints::{Command, Route};
 use std::alloc::Global;
 use std::process::Abort;
 use std::test::Fail;
 use wd_errors::Code;
-use wd_json::{WdBytes, write};
+use wd_json::{JsonReader, WdBytes, write};
 
 // The command's parameters, written again.
 fn parameters(alloc: Global, command: Command, body: &str) -> Result<WdBytes, ParamFault> {
@@ -15,7 +17,7 @@ fn parameters(alloc: Global, command: Command, body: &str) -> Result<WdBytes, Pa
         name: None,
     };
     let body = WdBytes::of(alloc, body.as_bytes())?;
-    let json = read_parameters(alloc, &route, &body)?;
+    let json = read_parameters(alloc, &mut JsonReader::new(alloc), &route, &body)?;
     Ok(write(alloc, &json)?)
 }
 

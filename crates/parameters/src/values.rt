@@ -1,19 +1,18 @@
+//! Which JSON values the kinds of parameters take.
+
 ghost use Rattle.std.specs.Prelude.{◌≡◌};
 ghost use Rattle.std.specs.Option.{option_map};
 ghost use Rattle.capabilities.specs.Values.{text_of};
 ghost use Rattle.parameters.specs.Kinds.{is_text as text_value, is_list as list_value, is_reference as reference, is_frame as frame, is_place as place, is_size as size, is_span as span};
 
-use wd_json::{Json, JsonMap};
-
-const ELEMENT_KEY: &str = "element-6066-11e4-a52e-4f735466cecf";
+use references::element_key;
+use wd_json::{Json, JsonMap, MAX_WHOLE};
 
 const MAX_FRAME: i64 = 65_535;
 
 const MIN_PLACE: i64 = -2_147_483_648;
 
 const MAX_PLACE: i64 = 2_147_483_647;
-
-const MAX_SPAN: i64 = 9_007_199_254_740_991;
 
 pub fn as_text(value: &Json) -> Option<&str>
     ensures { option_map (λ t. t.now) result ≡ text_of value.now }
@@ -40,7 +39,7 @@ pub fn is_list(value: &Json) -> bool
 fn is_reference(members: &JsonMap) -> bool
     ensures { result ≡ reference members.now }
 {
-    match members.get(ELEMENT_KEY) {
+    match members.get(element_key()) {
         Some(value) => is_text(value),
         None => false,
     }
@@ -81,7 +80,7 @@ pub fn is_span(value: &Json) -> bool
     ensures { result ≡ span value.now }
 {
     match value {
-        Json::Int(n) => 0 <= *n && *n <= MAX_SPAN,
+        Json::Int(n) => 0 <= *n && *n <= MAX_WHOLE,
         _ => false,
     }
 }

@@ -1,3 +1,5 @@
+//! Handing out a list of nodes: all of them get references, or none does.
+
 ghost use Rattle.std.specs.Prelude.{◌≡◌, ◌+◌, ◌<◌, ◌≤◌, IfOk, OnOk, true, false, Some, None};
 ghost use Rattle.references.specs.Handed.{is_node_kind};
 ghost use Rattle.references.specs.HandedAll.{handed_all, new_count, serials_left, Extends};

@@ -1,3 +1,5 @@
+//! Why no reference was handed out.
+
 ghost use Rattle.std.specs.Prelude.{◌≡◌};
 ghost use Rattle.references.specs.declared.fault.IdFault.TheVariants.{Full as NoSerial, Memory as OutOfMemory};
 

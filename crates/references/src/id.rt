@@ -1,3 +1,5 @@
+//! An identifier and its text, a UUID.
+
 ghost use Rattle.std.specs.Prelude.{◌≡◌, ◌≢◌, ◌<◌, ◌^◌, IfOk};
 ghost use Rattle.references.specs.Identifier.{Identifier, IsInRange, bytes_of, text_of, is_text_of};
 

@@ -1,3 +1,5 @@
+//! The identifiers to come of one session, by rising serials.
+
 ghost use Rattle.std.specs.Prelude.{◌≡◌, ◌+◌, ◌-◌, ◌^◌, ◌<◌, ◌↔◌, IfOk, OnOk, OnErr, IsErr};
 ghost use Rattle.references.specs.Series.{FitsPlaces, id_at, last_serial};
 

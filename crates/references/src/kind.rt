@@ -1,3 +1,5 @@
+//! What an identifier stands for: a session, a window, an element or a shadow root.
+
 ghost use Rattle.std.specs.Prelude.{◌≡◌, ◌<◌};
 ghost use Rattle.references.specs.Identifier.{kind_number};
 

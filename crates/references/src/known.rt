@@ -1,3 +1,5 @@
+//! The references that a session handed out, found by node and by text.
+
 ghost use Rattle.std.specs.Prelude.{◌≡◌, ◌↔◌, ◌-◌, IfOk, OnOk, OnErr, IsErr, true, false, Some, None, [], ◌∷◌, ◌++◌, length, is_some};
 ghost use Rattle.std.specs.List.{find};
 ghost use Rattle.references.specs.Series.{Series, id_at, last_serial};

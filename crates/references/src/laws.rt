@@ -1,3 +1,5 @@
+//! Laws: references differ from each other, last, and are handed out whole.
+
 ghost use Rattle.references.specs.Laws.{OneEntryForText, OneEntryForName, EntriesAreFound, HandedOutIsFound, HandedOutAgain, FoundStaysFound, AllOrNothing, AllIsFound, AllKeepsFound};
 
 /// Laws of the entries: no two have one text, no two have one name under one kind, and the name of

@@ -1,3 +1,5 @@
+//! Looking up entries by name and by text, and adding one.
+
 ghost use Rattle.std.specs.Prelude.{◌≡◌, None, [], ◌∷◌, ◌++◌, OnOk, OnErr};
 ghost use Rattle.std.specs.List.{find};
 ghost use Rattle.references.specs.Handed.{is_named, has_text_at};

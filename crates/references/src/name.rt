@@ -1,3 +1,5 @@
+//! The name of a node across documents, and the entry that is kept of a reference.
+
 use crate::kind::Kind;
 
 /// The name of a node: the number of its document, which no other document of the run has, and the

@@ -1,3 +1,5 @@
+//! The layout of identifiers, the last serial, and references handed out again, as tests.
+
 use crate::{Full, IdFault, Ids, Kind, Known, NodeName, id_text};
 use std::alloc::Global;
 use std::test::Fail;

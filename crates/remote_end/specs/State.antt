@@ -12,6 +12,9 @@ pub record State : Type 0 where
   pub next : ℕ
   pub sessions : List Session
 
+abbrev pub state_of : ℕ → List Session → State
+state_of next sessions = record { next = next; sessions = sessions }
+
 -- before the first session
 abbrev pub first_state : State
 first_state = record { next = 1; sessions = [] }

@@ -1,3 +1,5 @@
+//! A session advanced to a moment: the timers of its page that are due by then run.
+
 ghost use Rattle.std.specs.Prelude.{◌≡◌, ◌≤◌, Some, false, OnOk};
 ghost use Rattle.page_engine.specs.Timers.{AreInOrder, first_due};
 ghost use Rattle.waits.specs.Moments.{last_moment};

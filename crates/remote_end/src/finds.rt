@@ -1,3 +1,5 @@
+//! The commands that find: what each looks for and where, and what it answers or waits for.
+
 ghost use Rattle.std.specs.Prelude.{◌≡◌, ◌≤◌, [], true, IsTrue, IfOk, OnOk};
 ghost use Rattle.references.specs.Handed.{is_node_kind};
 ghost use Rattle.selectors.specs.Named.{first_of_list};

@@ -1,3 +1,5 @@
+//! The next moment of a waiting command, and what is done at it.
+
 ghost use Rattle.std.specs.Prelude.{◌≡◌, ◌<◌, ◌≤◌, ◌+◌, Some, None, false, IfOk, IsTrue, OnOk, length};
 ghost use Rattle.waits.specs.Moments.{last_moment};
 ghost use Rattle.remote_end.specs.FindSpans.{soonest};

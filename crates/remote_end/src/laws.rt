@@ -1,3 +1,5 @@
+//! Laws of lookups, of advancing pages, and of commands that wait.
+
 ghost use Rattle.remote_end.specs.Laws.{LookupsAreExact, AdvancesSomewhere, AdvancesToOne};
 ghost use Rattle.remote_end.specs.Resumed.{PlansAreOne, PlansAreThere, ResumesAreOne};
 

@@ -1,3 +1,5 @@
+//! One look of a find: the nodes that it gives on the page, and whether it goes on after that.
+
 ghost use Rattle.std.specs.Prelude.{◌≡◌, ◌<◌, ◌≤◌, [], true, false, Some, None, IfOk, IfErr};
 ghost use Rattle.std.specs.Str.{chars};
 ghost use Rattle.interaction.specs.Found.{Refuses};

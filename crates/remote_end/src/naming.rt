@@ -1,3 +1,5 @@
+//! The open session that the path of a target names.
+
 ghost use Rattle.std.specs.Prelude.{◌≡◌, ℕ, List, Some, codes};
 ghost use Rattle.std.specs.List.{position};
 ghost use Rattle.std.specs.Option.{option_map};

@@ -1,3 +1,5 @@
+//! What a row comes to at its command's start.
+
 use crate::reply::Reply;
 
 /// What a row comes to at its command's start.

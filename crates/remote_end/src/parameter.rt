@@ -1,3 +1,5 @@
+//! The text of a parameter, by its name.
+
 ghost use Rattle.std.specs.Prelude.{◌≡◌};
 ghost use Rattle.std.specs.Option.{option_copied, option_map};
 ghost use Rattle.capabilities.specs.Values.{text_of, members_of, value_of};

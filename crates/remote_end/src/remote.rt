@@ -1,3 +1,5 @@
+//! The remote end: requests begun, resumed and answered, one step for each.
+
 ghost use Rattle.std.specs.Prelude.{◌≡◌, ◌↔◌, ◌<◌, ◌≤◌, ◌^◌, ◌∷◌, ◌++◌, [], ℕ, false, true, Some, Ok, IsTrue, IsSome, IfSome, IfOk, OnOk, OnErr, length};
 ghost use Rattle.remote_end.specs.Carried.{HasStatus};
 ghost use Rattle.remote_end.specs.Step.{Begins, Resumes, IsFree};
@@ -26,7 +28,7 @@ use page_engine::Site;
 use std::alloc::Global;
 use std::marker::Model;
 use wd_http::{Clock, Request};
-use wd_json::{Memory, WdText};
+use wd_json::{JsonReader, Memory, WdText};
 
 /// A remote end: its site, its setting, its open sessions, and what it took of the outside. Contracts see
 /// the state of the command machine, what was taken, and whether it is spent.
@@ -34,6 +36,7 @@ use wd_json::{Memory, WdText};
 pub struct Remote {
     alloc: Global,
     endpoints: Endpoints,
+    reader: JsonReader,
     setting: Setting,
     next: u32,
     sessions: Vec<Session>,
@@ -74,6 +77,7 @@ impl Remote {
         Ok(Remote {
             alloc,
             endpoints: Endpoints::new(alloc)?,
+            reader: JsonReader::new(alloc),
             setting: Setting {
                 site,
                 offer: Offer { name },
@@ -174,6 +178,7 @@ impl Remote {
         let step = begin(
             self.alloc,
             &self.endpoints,
+            &mut self.reader,
             &self.setting,
             &mut self.next,
             &mut self.sessions,

@@ -1,3 +1,5 @@
+//! What a remote end is made with: its site, its offer and the number of its run.
+
 use capabilities::Offer;
 use page_engine::Site;
 

@@ -1,3 +1,5 @@
+//! What waits in a session: a find, or a reply that is about to be taken.
+
 use crate::finds::Wanted;
 use crate::reply::Reply;
 use interaction::By;

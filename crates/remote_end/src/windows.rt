@@ -1,3 +1,5 @@
+//! Get Window Handle.
+
 ghost use Rattle.std.specs.Prelude.{◌≡◌, IsTrue, IfOk};
 ghost use Rattle.wd_http.specs.Sent.{is_status};
 ghost use Rattle.remote_end.specs.Plan.{at_once};

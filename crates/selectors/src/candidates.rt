@@ -5,9 +5,8 @@ ghost use Rattle.page_tree.specs.Rows.{count, paths_of};
 ghost use Rattle.selectors.specs.Named.{in_scope};
 ghost use Rattle.selectors.specs.Scopes.{IsWithin, is_in};
 
-use crate::places::MAX_DEPTH;
 use crate::selector::Scope;
-use page_tree::Document;
+use page_tree::{Document, MAX_DEPTH};
 use std::alloc::Global;
 use wd_json::{Memory, NodeId, NodeList};
 

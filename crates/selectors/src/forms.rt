@@ -5,9 +5,8 @@ ghost use Rattle.page_tree.specs.Rows.{count};
 ghost use Rattle.selectors.specs.Siblings.{above};
 ghost use Rattle.selectors.specs.Forms.{has_disabled, is_option, is_fieldset, is_select, is_listed, is_control, is_disabled_fieldset, is_switched_off, is_disabled_select, is_disabled, is_checkable, is_checked, has_type};
 
-use crate::places::MAX_DEPTH;
 use crate::texts::{attribute_spells, is_tag};
-use page_tree::Document;
+use page_tree::{Document, MAX_DEPTH};
 use wd_json::NodeId;
 
 /// Whether the node is an element that can be disabled.

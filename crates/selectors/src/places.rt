@@ -3,12 +3,9 @@ ghost use Rattle.std.specs.List.{All};
 ghost use Rattle.page_tree.specs.Rows.{count, is_element};
 ghost use Rattle.selectors.specs.Siblings.{own_parent, own_above, earlier, later, kids_under};
 
-use page_tree::Document;
+use page_tree::{Document, MAX_DEPTH};
 use std::alloc::Global;
 use wd_json::{Memory, NodeId, NodeList};
-
-/// The greatest depth at which a node may stand.
-pub const MAX_DEPTH: usize = 200;
 
 pub fn is_element(document: &Document, node: NodeId) -> bool
     requires alive { document.now.spent ≡ false }

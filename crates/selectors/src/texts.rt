@@ -4,7 +4,7 @@ ghost use Rattle.page_tree.specs.Rows.{count, tag_of, attribute_of};
 ghost use Rattle.selectors.specs.Texts.{is_space, parts_have, has_word, has_text, is_tag, names_word, fits_tag};
 
 use page_tree::Document;
-use wd_json::{NodeId, WdText};
+use wd_json::{NodeId, WdText, is_same};
 
 /// Whether the node is an element with exactly this tag.
 #[tactic(auto, unfolding(crate::specs::Texts::is_tag))]
@@ -38,7 +38,7 @@ pub fn attribute_is(document: &Document, node: NodeId, name: &str, text: &WdText
     ensures { result ≡ has_text text.now (attribute_of document.now.rows node (chars name.now)) }
 {
     match document.attr(node, name) {
-        Some(value) => is_same(value, text),
+        Some(value) => is_same(value, text.as_str()),
         None => false,
     }
 }
@@ -50,7 +50,7 @@ pub fn attribute_spells(document: &Document, node: NodeId, name: &str, text: &st
     ensures { result ≡ has_text (chars text.now) (attribute_of document.now.rows node (chars name.now)) }
 {
     match document.attr(node, name) {
-        Some(value) => has_same_characters(value, text),
+        Some(value) => is_same(value, text),
         None => false,
     }
 }
@@ -72,19 +72,6 @@ pub fn has_characters(text: &str) -> bool
     ensures { result ≡ not (length (chars text.now) == 0) }
 {
     !text.is_empty()
-}
-
-// Whether the two have the same characters.
-fn is_same(value: &str, text: &WdText) -> bool
-    ensures { result ≡ bytes_eq (chars value.now) text.now }
-{
-    value == text.as_str()
-}
-
-fn has_same_characters(value: &str, text: &str) -> bool
-    ensures { result ≡ bytes_eq (chars value.now) (chars text.now) }
-{
-    value == text
 }
 
 fn is_same_ignoring_case(tag: &str, text: &WdText) -> bool

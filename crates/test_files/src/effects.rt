@@ -1,3 +1,5 @@
+//! Which values spell effects, and how effects are written again, as tests.
+
 use page_engine::{Effect, PromptKind, effects_fit};
 use page_file::{EffectFault, effects_json, effects_of};
 use std::alloc::Global;

@@ -1,3 +1,5 @@
+//! The limits of pages and sites in depth, nodes, timers and bytes, as tests.
+
 use crate::told::told;
 use std::alloc::{AllocError, Global};
 use std::process::Abort;

@@ -1,3 +1,5 @@
+//! What is told of each rule that a page's file breaks, as tests.
+
 use crate::told::told;
 use std::alloc::Global;
 use std::process::Abort;

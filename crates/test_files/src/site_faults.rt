@@ -1,3 +1,5 @@
+//! What a run tells of a site's file that breaks a rule, is named wrongly or can't be read: as tests.
+
 use crate::told::told;
 use std::alloc::Global;
 use std::process::Abort;

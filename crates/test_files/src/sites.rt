@@ -1,3 +1,5 @@
+//! What `read_site` answers for sites in memory: good ones and each fault, as tests.
+
 use page_file::{SiteFault, read_site};
 use std::alloc::Global;
 use std::test::Fail;

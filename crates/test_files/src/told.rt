@@ -1,3 +1,5 @@
+//! What a run of the server tells of files in memory: its status and what it printed.
+
 use std::alloc::Global;
 use std::test::Fail;
 use timed::{Named, in_memory};

@@ -1,3 +1,5 @@
+//! What effects ask of the world: the last address and the first prompt count, as a test.
+
 use crate::twelve_nodes::opened;
 use page_engine::{Effect, EffectList, Outcome, PromptKind};
 use std::alloc::Global;

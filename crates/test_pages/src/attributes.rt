@@ -1,3 +1,5 @@
+//! Attributes, shadow roots and texts as leaves of a document, as tests.
+
 use crate::nine_nodes::{element, moved, nine_nodes, same};
 use page_tree::Document;
 use std::alloc::Global;

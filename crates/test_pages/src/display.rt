@@ -1,3 +1,5 @@
+//! Which nodes of a page are shown and displayed, as a test.
+
 use page_tree::{Document, PixelBox};
 use std::alloc::Global;
 use std::process::Abort;

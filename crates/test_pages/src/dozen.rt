@@ -1,3 +1,5 @@
+//! A page of twelve nodes, with fields to fill and one timer.
+
 ghost use Rattle.std.specs.Prelude.{◌≡◌, ◌∷◌, ◌++◌, [], Some, None, false, true, pos, codes, IfOk, OnOk};
 ghost use Rattle.page_engine.specs.BuiltIn.{an_element, a_text, a_box};
 ghost use Rattle.page_engine.specs.Pages.{IsLawfulPage};

@@ -1,3 +1,5 @@
+//! Effects that set one field of a node and no other, as a test.
+
 use crate::twelve_nodes::applied;
 use page_engine::{Effect, Page};
 use page_tree::PixelBox;

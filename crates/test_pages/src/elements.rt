@@ -1,3 +1,5 @@
+//! Elements, texts and attributes, from which the pages of the tests are made.
+
 ghost use Rattle.std.specs.Prelude.{◌≡◌, ◌∷◌, [], Some, None, codes, IfOk};
 ghost use Rattle.std.specs.Str.{IsAscii};
 ghost use Rattle.page_engine.specs.BuiltIn.{an_element, a_text};

@@ -1,3 +1,5 @@
+//! A click that goes through a shadow root, as a test.
+
 use crate::parents::parents;
 use crate::twelve_nodes::opened;
 use page_engine::{Due, Event, EventKind};

@@ -1,3 +1,5 @@
+//! The fields of nodes, each set alone, as tests.
+
 use crate::nine_nodes::{element, nine_nodes};
 use page_tree::{Document, PixelBox, Point};
 use std::process::Abort;

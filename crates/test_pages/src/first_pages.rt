@@ -1,3 +1,5 @@
+//! The built-in page and `about:blank`, as tests.
+
 use crate::parents::parents;
 use page_engine::{Page, Site, blank_page};
 use std::test::Fail;

@@ -1,3 +1,5 @@
+//! Effects that move nodes or take them out, as a test.
+
 use crate::parents::parents;
 use crate::twelve_nodes::applied;
 use page_engine::Effect;

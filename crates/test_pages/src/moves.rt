@@ -1,3 +1,5 @@
+//! Moves of nodes in a document, and the limit of depth, as tests.
+
 use crate::nine_nodes::{moved, nine_nodes, same};
 use page_tree::{Document, TreeFault};
 use std::process::Abort;

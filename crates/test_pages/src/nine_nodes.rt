@@ -1,3 +1,5 @@
+//! A document of nine nodes beside its root, and moves in it.
+
 ghost use Rattle.std.specs.Prelude.{◌≡◌, ◌<◌, false, true};
 ghost use Rattle.page_tree.specs.Rows.{count, is_element};
 

@@ -1,3 +1,5 @@
+//! An opened page with its first values, and how it runs, as tests.
+
 use crate::dozen::a_dozen;
 use crate::parents::parents;
 use page_engine::{Due, Event, EventKind, Page};

@@ -1,3 +1,5 @@
+//! The parents of a page's nodes, compared.
+
 use page_engine::Page;
 use std::process::Abort;
 use wd_json::NodeId;

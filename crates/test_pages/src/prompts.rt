@@ -1,3 +1,5 @@
+//! A prompt that is closed, with its line in the log and its effects, as a test.
+
 use crate::twelve_nodes::opened;
 use page_engine::{Due, Effect, EffectList, Page, Prompt, PromptKind};
 use std::alloc::Global;

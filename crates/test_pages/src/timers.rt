@@ -1,3 +1,5 @@
+//! The order in which timers run, by moment, number and making, as tests.
+
 use crate::twelve_nodes::opened;
 use page_engine::{Due, Effect, EffectList, Page};
 use std::alloc::Global;

@@ -1,3 +1,5 @@
+//! A page of twelve nodes with a shadow tree, on which effects take place.
+
 ghost use Rattle.std.specs.Prelude.{◌≡◌, ◌∷◌, ◌++◌, [], IfOk, OnOk};
 ghost use Rattle.page_engine.specs.Pages.{IsLawfulPage};
 ghost use Rattle.page_engine.specs.declared.effect.Effect.TheVariants.{Remove, After, Layer};

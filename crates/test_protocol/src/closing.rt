@@ -1,3 +1,5 @@
+//! Whether a request closes its connection, as a test.
+
 use crate::framed::{Row, each};
 use std::test::Fail;
 

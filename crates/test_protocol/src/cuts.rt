@@ -1,3 +1,5 @@
+//! A request that is heard at every cut, as a test.
+
 use crate::framed::framed_in_two;
 use std::test::Fail;
 

@@ -1,3 +1,5 @@
+//! What a framer answers to bytes fed whole or in pieces, as texts to compare.
+
 use std::alloc::Global;
 use std::process::Abort;
 use std::test::Fail;

@@ -1,3 +1,5 @@
+//! Head blocks, request lines, headers and codings, as tests.
+
 use crate::framed::{Row, each};
 use std::test::Fail;
 

@@ -1,3 +1,5 @@
+//! Capabilities that are refused, by their form or by the first wrong name, as tests.
+
 use crate::new_session::expect_invalid;
 use std::test::Fail;
 

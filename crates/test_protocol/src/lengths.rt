@@ -1,3 +1,5 @@
+//! The lengths of bodies that `Content-Length` gives, as a test.
+
 use crate::framed::{Row, each};
 use std::test::Fail;
 

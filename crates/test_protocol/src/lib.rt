@@ -1,5 +1,5 @@
-//! The table of heads and of how they are cut, the bytes of responses, the files, lines, sinks and clocks in memory, and
-//! which capabilities a new session is given, as tests.
+//! The table of heads and of how they are cut, the bytes of responses, the files, lines, sinks and clocks in memory,
+//! which capabilities a new session is given, and which route a request has, as tests.
 //! What is expected is worked out from the rules in docs/PROFILE.md, never from the program.
 #![tactic(auto)]
 
@@ -27,5 +27,7 @@ mod outside;
 mod pieces;
 #[cfg(test)]
 mod responses;
+#[cfg(test)]
+mod routes;
 #[cfg(test)]
 mod timeouts;

@@ -1,3 +1,5 @@
+//! Heads as long as may be or longer, as a test.
+
 use crate::framed::framed_with_repeats;
 use std::test::Fail;
 

@@ -1,3 +1,5 @@
+//! Capabilities that are matched or aren't, each read and merged, as tests.
+
 use crate::new_session::{DEFAULT, changed, expect_no_match, expect_session};
 use std::test::Fail;
 

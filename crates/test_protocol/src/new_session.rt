@@ -1,3 +1,5 @@
+//! What capabilities are answered with, compared with what is expected.
+
 use capabilities::{CapFault, Offer, echo, process};
 use std::alloc::Global;
 use std::process::Abort;

@@ -1,3 +1,5 @@
+//! Lines, sinks, files and clocks in memory, with calls that fail, as tests.
+
 use std::alloc::Global;
 use std::process::Abort;
 use std::test::Fail;

@@ -1,3 +1,5 @@
+//! A framer that is fed pieces in which requests end midway, as a test.
+
 ghost use Rattle.std.specs.Prelude.{◌≡◌, false, OnOk};
 
 use std::test::Fail;

@@ -1,3 +1,5 @@
+//! The bytes of a response, as a test.
+
 use std::test::Fail;
 use wd_http::{BadHead, response_bytes};
 use wd_json::WdBytes;

@@ -1,3 +1,5 @@
+//! Timeouts that are read, written and refused, as tests.
+
 use capabilities::{Timeouts, read_timeouts, timeouts_object};
 use std::test::Fail;
 use wd_errors::Code;

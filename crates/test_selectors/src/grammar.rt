@@ -1,3 +1,5 @@
+//! What the grammar of selectors reads and how it is printed, and what it refuses: as tests.
+
 use crate::shown::{prints, refuses};
 use selectors::one_selector;
 use std::test::Fail;

@@ -1,3 +1,5 @@
+//! What selectors name on two pages, by combinators, places, scopes and attributes: as tests.
+
 use crate::pages::{second_page, worked_page};
 use crate::pieces::{Piece, built};
 use page_tree::Document;

@@ -1,3 +1,5 @@
+//! The two pages on which selectors are tested.
+
 use page_tree::Document;
 use std::alloc::Global;
 use std::process::Abort;

@@ -1,3 +1,5 @@
+//! Selectors put together from pieces, in the order in which they are written.
+
 use selectors::{Combinator, Complex, Compound, JoinList, Selector, Simple, Test};
 use std::alloc::Global;
 use std::test::Fail;

@@ -1,3 +1,5 @@
+//! The printed form of a selector, compared, and texts that are none.
+
 use selectors::{SelFault, parse, print};
 use std::alloc::Global;
 use std::process::Abort;

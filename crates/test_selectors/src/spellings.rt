@@ -1,3 +1,5 @@
+//! Identifiers, escapes, strings and steps that are spelled by hand, as tests.
+
 use crate::shown::{prints, refuses};
 use std::test::Fail;
 

@@ -1,3 +1,5 @@
+//! Files in memory by their names and texts.
+
 ghost use Rattle.std.specs.Prelude.{◌≡◌, map, IfOk};
 ghost use Rattle.std.specs.Str.{chars};
 ghost use Rattle.wd_http.specs.FilesState.{filed_of};

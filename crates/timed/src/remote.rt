@@ -1,3 +1,5 @@
+//! A remote end over the worked site, and its requests begun, resumed and answered.
+
 use crate::{W_JSON, W_SITE, in_memory};
 use page_file::read_site;
 use remote_end::{Evaluator, Remote, Reply, Step};

@@ -1,3 +1,5 @@
+//! Finds that wait and are resumed, early and late, as tests.
+
 use crate::remote::{answered, answered_at, begun, compared, opened, request_of, resumed};
 use remote_end::{Remote, Step, Taken};
 use std::alloc::Global;

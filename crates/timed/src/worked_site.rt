@@ -1,3 +1,5 @@
+//! The files of the worked site.
+
 /// The worked site, as it stands in examples/.
 pub const W_SITE: &str =
     r#"{"wdsite":1,"start":"http://w.test/","pages":[["http://w.test/","w.json"]]}"#;

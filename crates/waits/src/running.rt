@@ -1,3 +1,5 @@
+//! All steps of an activity up to a reading, each at its own moment.
+
 ghost use Rattle.std.specs.Prelude.{◌≡◌, ◌<◌, ◌≤◌, ℕ, Some, None, Ok, IfSome, IfOk, OnOk};
 ghost use Rattle.waits.specs.Reaching.{Reaches, IsLater};
 

@@ -1,3 +1,5 @@
+//! The error codes of replies.
+
 ghost use Rattle.std.specs.Prelude.{Some};
 ghost use Rattle.wd_errors.specs.Codes.{row_of};
 

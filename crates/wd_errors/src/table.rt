@@ -1,3 +1,5 @@
+//! The status and text of each error code, and the code of a text.
+
 ghost use Rattle.std.specs.Prelude.{◌≡◌, ◌≢◌, IfSome, IfNone};
 ghost use Rattle.wd_errors.specs.Codes.{row_of};
 ghost use Rattle.wd_errors.specs.declared.code.Code.{Code as AnyCode};

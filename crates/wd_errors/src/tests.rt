@@ -1,3 +1,5 @@
+//! The statuses and texts of the codes, and texts that have none, as tests.
+
 use crate::{Code, code_of, code_text, status};
 use std::process::Abort;
 use std::test::Fail;

@@ -1,3 +1,5 @@
+//! Lists of bytes, one for each connection.
+
 ghost use Rattle.std.specs.Prelude.{◌≡◌, ◌++◌, ◌∷◌, ◌<◌, [], Some, OnOk, OnErr, length, map, slice_get, slice_set, slice_index_or};
 ghost use Rattle.wd_http.specs.HeldConnection.{comes_on};
 

@@ -1,3 +1,5 @@
+//! Calls in memory numbered from 1, and which of them fail.
+
 ghost use Rattle.wd_http.specs.Calls.{Calls, IsCalled, first_calls, last_number};
 ghost use Rattle.std.specs.Prelude.{◌≡◌, ◌≤◌, ◌<◌, ◌+◌, ◌↔◌, IsTrue, false};
 

@@ -1,3 +1,5 @@
+//! A clock, from which a moment is read or rested for.
+
 ghost use Rattle.std.specs.Prelude.{◌≤◌, ℕ};
 
 /// A clock in milliseconds. What it answers is told by two relations, which each clock gives: a

@@ -1,3 +1,5 @@
+//! Connections in memory, one after another, with what comes and goes on them.
+
 ghost use Rattle.std.specs.Prelude.{◌≡◌, ◌<◌, ◌++◌, [], false, Ok, OnOk, length, take};
 ghost use Rattle.wd_http.specs.Talk.{Talk, Elsewhere, Took, Sends, Fails, GoesOn, HangsUp, fresh, given, sent_on};
 ghost use Rattle.wd_http.specs.Least.{least};

@@ -1,3 +1,5 @@
+//! A connection in memory, but for the bytes that were sent on it.
+
 ghost use Rattle.std.specs.Prelude.{◌≡◌, ◌++◌, ◌∷◌, [], List, ℕ, Some, None, OnOk, OnErr, length, take};
 ghost use Rattle.wd_http.specs.HeldConnection.{HeldConnection, comes_on, untouched};
 ghost use Rattle.wd_http.specs.Least.{least};

@@ -1,3 +1,5 @@
+//! Why a call on the outside failed: of a line, of a write, of a read of a file.
+
 ghost use Rattle.std.specs.Prelude.{◌≡◌};
 ghost use Rattle.wd_http.specs.declared.fault.WriteFault.TheVariants.{Memory as write_memory};
 ghost use Rattle.wd_http.specs.declared.fault.FileFault.TheVariants.{Memory as file_memory};

@@ -1,3 +1,5 @@
+//! Files by their names, read and written, with the calls that failed counted.
+
 ghost use Rattle.std.specs.Prelude.{◌≡◌, ◌≤◌, ℕ, List, Bool, IsTrue, IfOk, length};
 ghost use Rattle.wd_http.specs.Causes.{HasReadCause, HasWriteCause};
 ghost use Rattle.wd_http.specs.Files.{IsOneMore, ReadsFile, Takes, WritesFile};

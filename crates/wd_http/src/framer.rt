@@ -1,3 +1,5 @@
+//! Whole requests, or a bad head, out of bytes that come in pieces.
+
 ghost use Rattle.std.specs.Prelude.{◌≡◌, ◌++◌, [], Ok, IfOk, OnOk, None, Some, is_err, false};
 ghost use Rattle.wd_http.specs.Stream.{Stream, Framed};
 ghost use Rattle.wd_http.specs.declared.framer.Next.TheVariants.{Bad as BadNext};

@@ -1,3 +1,5 @@
+//! Connections that come one after another, read and written, with the calls that failed counted.
+
 ghost use Rattle.std.specs.Prelude.{◌≡◌, ◌≤◌, ℕ, Bool, IsTrue, IfOk, [], length};
 ghost use Rattle.wd_http.specs.Talk.{Talk, GoesOn, Reads, Writes, HangsUp};
 ghost use Rattle.wd_http.specs.Causes.{HasCause, HasWriteCause};

@@ -1,3 +1,5 @@
+//! A clock that answers the numbers of a list.
+
 ghost use Rattle.std.specs.Prelude.{◌≡◌, ◌≤◌};
 ghost use Rattle.wd_http.specs.Clocks.{list_now, list_rest, times_of};
 

@@ -1,3 +1,5 @@
+//! Lists of calls, moments and files.
+
 use wd_json::{WdBytes, WdList, WdText};
 
 /// Numbers of calls, counted from 1.

@@ -1,3 +1,5 @@
+//! Files in memory, of which some calls fail.
+
 ghost use Rattle.std.specs.Prelude.{◌≡◌, ◌≤◌, true, IfOk, length};
 ghost use Rattle.std.specs.Option.{option_copied};
 ghost use Rattle.wd_http.specs.Causes.{HasReadCause, HasWriteCause};

@@ -1,3 +1,5 @@
+//! A line in memory, of which some calls fail and the others move a limited number of bytes.
+
 ghost use Rattle.std.specs.Prelude.{◌≡◌, ◌≤◌, ◌<◌, [], true, IfOk, length};
 ghost use Rattle.wd_http.specs.Causes.{HasCause, HasWriteCause};
 ghost use Rattle.wd_http.specs.Talk.{GoesOn, Reads, Writes, HangsUp, given, sent_on};

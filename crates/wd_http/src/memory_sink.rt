@@ -1,3 +1,5 @@
+//! A sink in memory, of which some writes fail.
+
 ghost use Rattle.std.specs.Prelude.{◌≡◌, ◌≤◌, ◌<◌, List, ℕ, [], true, IsTrue, IfOk, length};
 ghost use Rattle.wd_http.specs.Causes.{HasWriteCause};
 ghost use Rattle.wd_http.specs.Written.{TakesBytes};

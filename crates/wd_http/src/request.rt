@@ -1,3 +1,5 @@
+//! A request that was read whole, and why what stands in front of the bytes is no head.
+
 ghost use Rattle.std.specs.Prelude.{◌≡◌};
 ghost use Rattle.wd_http.specs.BadHeads.{head_status, head_message};
 

@@ -1,3 +1,5 @@
+//! The bytes of a response.
+
 ghost use Rattle.std.specs.Prelude.{◌≡◌, ◌++◌, IfOk, IsTrue, [], if◌then◌else◌, codes};
 ghost use Rattle.wd_http.specs.Sent.{response, phrase, is_status, crlf};
 

@@ -1,3 +1,5 @@
+//! Where text is written, with the writes that failed counted.
+
 ghost use Rattle.std.specs.Prelude.{◌≡◌, ◌≤◌, ℕ, List, Bool, [], IsTrue, IfOk, length};
 ghost use Rattle.wd_http.specs.Causes.{HasWriteCause};
 ghost use Rattle.wd_http.specs.Written.{TakesBytes};

@@ -1,3 +1,5 @@
+//! A clock that stands still but for rests.
+
 ghost use Rattle.std.specs.Prelude.{◌≡◌};
 ghost use Rattle.wd_http.specs.Clocks.{virtual_now, virtual_rest};
 

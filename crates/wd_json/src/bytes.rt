@@ -1,3 +1,5 @@
+//! A list of bytes that keeps its allocator.
+
 ghost use Rattle.std.specs.Prelude.{◌≡◌, [], ◌∷◌, ◌++◌, ◌<◌, Some, length, slice_get, IfOk, OnOk, OnErr, ◌↔◌, IsTrue};
 
 use crate::memory::Memory;

@@ -1,3 +1,5 @@
+//! Equal copies of values.
+
 ghost use Rattle.std.specs.Prelude.{◌≡◌, IfOk};
 
 use crate::list::WdList;

@@ -1,3 +1,5 @@
+//! Why a call gives nothing: a reason of its own, or no memory.
+
 ghost use Rattle.std.specs.Prelude.{◌≡◌};
 ghost use Rattle.wd_json.specs.declared.fault.Fault.TheVariants.{Memory as WithoutMemory};
 ghost use Rattle.wd_json.specs.declared.fault.JsonFault.TheVariants.{Memory as OutOfMemory};

@@ -1,3 +1,5 @@
+//! A list of items that keeps its allocator.
+
 ghost use Rattle.std.specs.Prelude.{◌≡◌, [], ◌∷◌, ◌++◌, ◌<◌, Some, length, remove, slice_get, ◌↔◌, IsTrue, OnOk, OnErr};
 
 use crate::memory::Memory;

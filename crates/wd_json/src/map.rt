@@ -1,3 +1,5 @@
+//! A map from texts, its entries in the order of their keys.
+
 ghost use Rattle.std.specs.Prelude.{◌≡◌, [], ◌<◌, Some, length, slice_get, IfOk, IfErr, OnOk, OnErr};
 ghost use Rattle.std.specs.Option.{option_copied};
 ghost use Rattle.wd_json.specs.Keys.{key_order};

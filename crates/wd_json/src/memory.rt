@@ -1,3 +1,5 @@
+//! That there was no memory, as an error.
+
 use std::alloc::{AllocError, AllocFailed};
 use std::error::Error;
 use std::fmt;

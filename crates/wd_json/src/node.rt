@@ -1,3 +1,5 @@
+//! A node of a document, by its number.
+
 ghost use Rattle.std.specs.Prelude.{◌≡◌, ◌<◌, ◌^◌};
 
 use crate::list::WdList;

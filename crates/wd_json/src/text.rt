@@ -1,3 +1,5 @@
+//! A text, as a list of characters that keeps its allocator.
+
 ghost use Rattle.std.specs.Prelude.{◌≡◌, [], ◌∷◌, ◌++◌, ◌<◌, Some, true, length, slice_get, IfOk, OnOk, OnErr};
 ghost use Rattle.std.specs.Str.{all_scalars, bytes_eq, chars, encode_utf8_all, IsAscii};
 

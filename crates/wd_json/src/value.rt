@@ -1,3 +1,5 @@
+//! A JSON value whose numbers are whole.
+
 ghost use Rattle.std.specs.Prelude.{◌≡◌};
 ghost use Rattle.wd_json.specs.Json.{data_of};
 ghost use Rattle.wd_json.specs.declared.value.Json.{Json};

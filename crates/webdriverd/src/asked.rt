@@ -1,3 +1,5 @@
+//! What the words of the command line ask for.
+
 /// How connections come.
 #[derive(Clone, Copy)]
 pub(crate) enum How {

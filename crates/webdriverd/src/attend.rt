@@ -1,3 +1,5 @@
+//! Connections served one after another, up to so many.
+
 ghost use Rattle.std.specs.Prelude.{◌≡◌, IsTrue, IfOk, OnOk, OnErr};
 ghost use Rattle.remote_end.specs.Outside.{outside};
 ghost use Rattle.remote_end.specs.Standing.{IsReady};

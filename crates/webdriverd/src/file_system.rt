@@ -1,3 +1,5 @@
+//! Where files are opened and written by their paths, and the files of a runtime.
+
 ghost use Rattle.std.specs.Prelude.{◌≡◌, ℕ, List, Option, Some, None, IfOk, IfSome, OnOk};
 
 use std::io::Read;

@@ -1,3 +1,5 @@
+//! The server under `listen`: it opens the port, prints so and serves its connections.
+
 ghost use Rattle.std.specs.Prelude.{◌≡◌, ◌≢◌, ◌+◌, ◌<◌, ◌^◌, ◌⊎◌, ◌++◌, true, false, None, IsTrue, IsSome, IfOk, IfSome, drop, is_some, string_bytes};
 ghost use Rattle.std.specs.List.{All};
 ghost use Rattle.std.specs.Str.{chars};

@@ -1,3 +1,5 @@
+//! A run of the server over a site, as the words ask: over a pipe or listening.
+
 ghost use Rattle.std.specs.Prelude.{◌≡◌, ◌≢◌, ◌+◌, ◌<◌, ◌^◌, ◌⊎◌, Some, None, false, IsTrue, IsSome, IfSome, drop, is_some};
 ghost use Rattle.std.specs.List.{All};
 ghost use Rattle.std.specs.Str.{chars};

@@ -1,3 +1,5 @@
+//! All bytes of a response handed to the line, and a request answered so.
+
 ghost use Rattle.std.specs.Prelude.{◌≡◌, ◌≤◌, ◌+◌, IsTrue, IfOk, OnOk, OnErr, true, false};
 ghost use Rattle.std.specs.List.{All};
 ghost use Rattle.wd_http.specs.Sent.{is_status};
@@ -7,11 +9,10 @@ ghost use Rattle.webdriverd.specs.Service.{SentOn, Replies};
 ghost use Rattle.webdriverd.specs.Serving.{Handing, IsWithin, Calls};
 ghost use Rattle.remote_end.specs.Outside.{outside};
 
-use crate::json_text::json_text;
 use remote_end::{Evaluator, Remote, Reply};
 use std::alloc::Global;
 use wd_http::{Clock, Line, Request, WriteFault, response_bytes};
-use wd_json::{Memory, WdBytes};
+use wd_json::{Memory, WdBytes, write};
 
 /// Sends all bytes, or as many as the line takes before it fails. Says whether all were sent. The line is
 /// handed all of them, and what a write didn't take is handed over again.
@@ -41,7 +42,7 @@ pub(crate) fn reply_bytes(alloc: Global, reply: Reply, close: bool) -> Result<Wd
     requires { IsTrue (is_status reply.status) }
     ensures { IfOk result (λ bytes. bytes ≡ response_to reply close) }
 {
-    let body = json_text(alloc, &reply.body)?;
+    let body = write(alloc, &reply.body)?;
     Ok(response_bytes(alloc, reply.status, &body, close)?)
 }
 

@@ -1,3 +1,5 @@
+//! The machine's clock, with rests that take no time and no reading that goes back.
+
 ghost use Rattle.std.specs.Prelude.{◌≡◌, ◌≤◌};
 
 use std::rt;

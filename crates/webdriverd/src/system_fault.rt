@@ -1,3 +1,5 @@
+//! What an error of the system means: no memory, or a call that failed.
+
 ghost use Rattle.std.specs.Prelude.{◌≡◌, ◌⊎◌, ◌↔◌, IsTrue};
 ghost use Rattle.std.specs.IoError.{error_kind};
 

@@ -1,3 +1,5 @@
+//! How many bytes a writer takes of a piece.
+
 ghost use Rattle.std.specs.Prelude.{◌≡◌, ◌≢◌, ◌≤◌, [], IfOk, length, take};
 ghost use Rattle.std.specs.Io.KnownBytes.{Appends};
 

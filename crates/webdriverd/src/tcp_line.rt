@@ -1,3 +1,5 @@
+//! The connections of a TCP port at the loopback address, as a line.
+
 ghost use Rattle.std.specs.Prelude.{◌≡◌, ◌≤◌, ◌<◌, ◌+◌, [], false, IsTrue, IfOk, length};
 ghost use Rattle.wd_http.specs.Calls.{last_number};
 ghost use Rattle.wd_http.specs.Causes.{HasCause, HasWriteCause};

@@ -1,3 +1,5 @@
+//! One turn: a connection asked for, served and hung up.
+
 ghost use Rattle.std.specs.Prelude.{◌≡◌, ◌≤◌, IfOk, OnOk, OnErr};
 ghost use Rattle.remote_end.specs.Outside.{outside};
 ghost use Rattle.remote_end.specs.Standing.{IsReady};

@@ -1,3 +1,5 @@
+//! What is found by links, tags and selectors in scopes of one page, as tests.
+
 use crate::tests::pages::{Row, page};
 use crate::{By, find};
 use page_tree::Document;

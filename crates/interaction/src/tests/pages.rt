@@ -1,3 +1,5 @@
+//! Small pages for the tests, from rows of nodes and their parents.
+
 use page_tree::Document;
 use std::alloc::Global;
 use std::process::Abort;

@@ -1,3 +1,5 @@
+//! The rendered texts of small pages, as a test.
+
 use crate::rendered_text;
 use crate::tests::pages::{Row, page};
 use std::alloc::Global;

@@ -1,3 +1,5 @@
+//! Whether a document's nodes are hidden, shown and displayed.
+
 ghost use Rattle.std.specs.Prelude.{◌≡◌, ◌<◌, false};
 ghost use Rattle.page_tree.specs.Rows.{count};
 ghost use Rattle.page_tree.specs.Display.{hides, is_shown, is_displayed};

@@ -1,3 +1,5 @@
+//! The fields of a document's nodes, what has the focus, and the scroll position.
+
 ghost use Rattle.std.specs.Prelude.{◌≡◌, ◌<◌, false, true, IfSome, OnOk, OnErr};
 ghost use Rattle.std.specs.Str.{chars};
 ghost use Rattle.page_tree.specs.Rows.{count, is_element, is_text, attributes_at, value_at, checked_at, pixels_at, layer_at, hidden_at, with_text, with_value, with_pixels, with_layer, with_hidden, with_checked, with_focus, with_scroll};

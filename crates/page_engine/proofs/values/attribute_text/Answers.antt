@@ -3,7 +3,7 @@ use Rattle.std.specs.Str.{chars}
 use Rattle.std.proofs.lemmas.Result.{IfOk-weaker}
 use Rattle.std.proofs.lemmas.Str.{chars-IsAscii}
 use Rattle.page_tree.specs.Rows.{attribute_of}
-use Rattle.page_engine.specs.FirstValues.{or_nothing}
+use Rattle.page_tree.specs.Texts.{or_nothing}
 use Rattle.page_engine.proofs.values.attribute_text.Goals as goal
 
 pub returns-in-Some : goal.returns-in-Some

@@ -1,18 +1,9 @@
-use Rattle.std.proofs.Common.{◌≡◌, ◌≤◌, ◌<◌, Bool, true, false, refl, ap, sym, ◌∙◌, arith, rules}
-use Rattle.std.specs.Prelude.{not}
+use Rattle.std.proofs.Common.{◌≡◌, ◌≤◌, ◌<◌, true, false, ap, sym, ◌∙◌, arith, rules}
 use Rattle.std.specs.BTreeSet.{contains_text}
 use Rattle.std.specs.Str.{encode_utf8_all}
 use Rattle.page_engine.specs.Books.{are_pairs}
-use Rattle.page_file.proofs.SeenTexts.{far_place, key_again, pairs_more}
+use Rattle.page_file.proofs.SeenTexts.{was_had, was_new, far_place, key_again, pairs_more}
 use Rattle.page_file.proofs.book.are_pairs.Goals as goal
-
-was_had : (b h : Bool) → b ≡ not h → b ≡ false → h ≡ true
-was_had b true e f = refl
-was_had b false e f = cc
-
-was_new : (b h : Bool) → b ≡ not h → b ≡ true → h ≡ false
-was_new b true e f = cc
-was_new b false e f = refl
 
 pub returns-then-pair-count : goal.returns-then-pair-count
 returns-then-pair-count c =

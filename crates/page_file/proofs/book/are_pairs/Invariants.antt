@@ -1,6 +1,7 @@
 use Rattle.std.proofs.Common.{◌≡◌, true, take}
 use Rattle.page_engine.specs.Books.{are_pairs}
-use Rattle.page_file.proofs.SeenTexts.{HasKeys, first_key}
+use Rattle.page_file.proofs.SeenTexts.{first_key}
+use Rattle.page_file.specs.Seen.{HasKeys}
 use Rattle.page_file.proofs.book.are_pairs.Given as goal
 
 abbrev pub invariant-loop-pair : goal.invariant-loop-pair

@@ -1,6 +1,5 @@
 use Rattle.std.proofs.Common.{rules, ◌≡◌, Some, refl, ◌∙◌}
-use Rattle.page_file.specs.EntriesRead.{IsPlain}
-use Rattle.page_file.specs.Listings.{entry_of}
+use Rattle.page_file.specs.Listings.{entry_of, IsPlain}
 use Rattle.page_file.specs.declared.listing.Entry.{Entry}
 use Rattle.page_file.proofs.EntrySteps.{known_entry, new_entry, index_more}
 use Rattle.page_file.proofs.entries.next_entry.Goals as goal
@@ -10,7 +9,7 @@ returns-then-not-branch-clause-fault c =
     let e : Entry = c.in-Some.entry in
     let spelled : entry_of c.args.value.now ≡ Some e = search rules in
     let plain : IsPlain e.address = search rules in
-    (refl, refl, known_entry c.args.places.now c.args.entries.now e c.args.value.now c.as_str.result.now c.requires.index spelled (c.as_str.ensures.bytes ∙ plain) (search rules))
+    (refl, known_entry c.args.places.now c.args.entries.now e c.args.value.now c.as_str.result.now c.requires.index spelled (c.as_str.ensures.bytes ∙ plain) (search rules))
 
 pub returns-clause-next : goal.returns-clause-next
 returns-clause-next c =

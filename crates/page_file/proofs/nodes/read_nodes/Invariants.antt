@@ -1,4 +1,4 @@
-use Rattle.page_file.proofs.NodesGood.{AreRead}
+use Rattle.page_file.proofs.NodesRead.{AreRead}
 use Rattle.page_file.proofs.nodes.read_nodes.Given as goal
 
 abbrev pub invariant-loop-value : goal.invariant-loop-value

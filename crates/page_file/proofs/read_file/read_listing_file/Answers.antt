@@ -1,7 +1,7 @@
 use Rattle.std.proofs.Common.{◌≡◌, ◌+◌, ◌≤◌, Some, IsTrue, rules, arith}
 use Rattle.page_file.proofs.FileFaults.{bad_value_at, bad_fault, of_err}
-use Rattle.page_file.specs.Listings.{listing_fault}
-use Rattle.page_file.specs.SiteFiles.{files_limit, size_at, IsFileFault}
+use Rattle.page_file.proofs.Lawful.{listing_lawful}
+use Rattle.page_file.specs.SiteFiles.{files_limit, size_at, listing_fault, IsFileFault}
 use Rattle.wd_json.specs.declared.value.Json.{Json}
 use Rattle.page_file.proofs.read_file.read_listing_file.Goals as goal
 
@@ -19,3 +19,6 @@ returns-in-Err-Bad-clause-fault g c = λ t.
     let few : c.args.total.now + size_at (g.F.Files.files c.args.files.now) c.args.name.now ≤ files_limit = omega (arith, c.in_ok-value.ensures.size t, c.in_ok-value.ensures.within) in
     bad_fault (g.F.Files.files c.args.files.now) c.args.name.now c.args.total.now listing_fault row why c.bad.result c.bad.ensures
     (bad_value_at (g.F.Files.files c.args.files.now) c.args.name.now c.args.total.now listing_fault v row why (c.in_ok-value.ensures.file t) few cause)
+
+pub returns-in-Ok-clause-lawful : goal.returns-in-Ok-clause-lawful
+returns-in-Ok-clause-lawful g c = listing_lawful c.in_ok-value.value c.in-Ok.listing.0 c.in-Ok.ensures.listing

@@ -1,6 +1,6 @@
 use Rattle.std.proofs.Common.{◌+◌, ◌≤◌, ℕ, List, Option, IsTrue, length, rules, arith}
 use Rattle.page_file.proofs.FileFaults.{no_text, no_value_at, bad_fault, of_err}
-use Rattle.page_file.specs.First.{Fault}
+use Rattle.page_file.specs.Rows.{Fault}
 use Rattle.page_file.specs.SiteFiles.{files_limit, IsFileFault, IsTextOf}
 use Rattle.page_file.specs.declared.why.Why.TheVariants as reason
 use Rattle.wd_json.specs.Whole.{IsCause}

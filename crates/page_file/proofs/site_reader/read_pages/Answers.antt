@@ -4,8 +4,7 @@ use Rattle.page_engine.specs.Pages.{IsLawfulPage}
 use Rattle.page_engine.specs.declared.page_def.PageDef.{PageDef}
 use Rattle.page_file.proofs.FileFaults.{of_err, cause_since}
 use Rattle.page_file.proofs.PageFiles.{good_more, sizes_more, entry_fault, addresses_more, lawful_more}
-use Rattle.page_file.specs.PageFaults.{page_fault}
-use Rattle.page_file.specs.SiteFiles.{FileMap, size_at, sizes, IsPageFile, AreGoodFiles, IsFileFault, IsEntryFault, IsReadCause}
+use Rattle.page_file.specs.SiteFiles.{FileMap, size_at, sizes, IsPageFile, AreGoodFiles, page_fault, IsFileFault, IsEntryFault, IsReadCause}
 use Rattle.page_file.specs.declared.listing.Entry.{Entry}
 use Rattle.page_file.specs.declared.site_fault.SiteFault.{SiteFault}
 use Rattle.page_file.specs.declared.site_fault.SiteFault.TheVariants.{Memory}
@@ -19,7 +18,7 @@ returns-in_err-page-clause-fault g c =
     let fault : SiteFault = c.in_err-page.field-0.0 in
     of_err (λ (f : SiteFault). IsTrue g.F.Files.tells → IsEntryFault files c.args.total.now c.args.entries.now f) c.from_residual.result fault (search rules)
     (λ t. entry_fault files c.args.total.now c.args.entries.now old.entry-index entry c.loop-entry-test.true c.entry-item.is old.pages.items old.total fault
-    (old.invariant.pages t) (old.invariant.size t) (subst (λ (fs : FileMap). IsFileFault fs entry.file old.total page_fault fault) (old.invariant.same t) (c.in_err-page.ensures.fault t)))
+    (old.invariant.pages t) (old.invariant.size t) (subst (λ (fs : FileMap). IsFileFault fs entry.file old.total (page_fault entry) fault) (old.invariant.same t) (c.in_err-page.ensures.fault t)))
 
 pub returns-in_err-page-clause-cause : goal.returns-in_err-page-clause-cause
 returns-in_err-page-clause-cause g c =

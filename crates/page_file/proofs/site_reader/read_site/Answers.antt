@@ -56,6 +56,5 @@ returns-clause-lawful g c =
     let listing : Listing = c.in_ok-listing.listing in
     let pages : List PageDef = c.in_ok-read_pages.field-0 in
     let same : of_pages pages ≡ of_entries listing.entries = c.in_ok-read_pages.ensures.addresses ∙ ap of_entries c.as_slice-entries.ensures in
-    let lists = c.in_ok-listing.ensures.lists in
     subst (λ (ps : List PageDef). IsLawfulSite (record { start = listing.start; pages = ps })) (sym (c.into_list.ensures ∙ c.new-pages.ensures))
-    (lawful_site lists.0 listing pages lists.1 same c.in_ok-read_pages.ensures.lawful (subst AreLinked c.new-pages.ensures c.in_ok-check_pages.ensures.linked))
+    (lawful_site listing pages c.in_ok-listing.ensures.lawful same c.in_ok-read_pages.ensures.lawful (subst AreLinked c.new-pages.ensures c.in_ok-check_pages.ensures.linked))

@@ -1,7 +1,8 @@
 use Rattle.std.proofs.Common.{◌≡◌, List, IfOk, Some, ap, sym, subst, ◌∙◌}
 use Rattle.std.proofs.lemmas.List.{take_all}
 use Rattle.page_engine.specs.Fitting.{anywhere, timed, answering, fits_at, fit_at}
-use Rattle.page_file.specs.Spelled.{answer_effect, timed_effect, effect_of, all_in, each}
+use Rattle.page_file.specs.Members.{each_of}
+use Rattle.page_file.specs.Spelled.{answer_effect, timed_effect, effect_of, all_in}
 use Rattle.page_file.proofs.EachRead.{fit_more, all_in_list, prompt_parts, after_parts}
 use Rattle.page_file.proofs.WholeValues.{list_whole, items_more}
 use Rattle.page_file.proofs.writing.+json.Goals as goal
@@ -18,9 +19,9 @@ all_json-loop-effect-preserved t c =
     let vs = c.loop-effect.values.items in
     let v = c.in_ok-effect_json.field-0 in
     record {
-      answers = λ fit. ap (each answer_effect) c.in_ok-push.ensures.items ∙ fit_more answering answer_effect vs v es i e c.loop-effect-test.true c.effect-item.is c.loop-effect.invariant.answers c.in_ok-effect_json.ensures.answers fit;
-      timed = λ fit. ap (each timed_effect) c.in_ok-push.ensures.items ∙ fit_more timed timed_effect vs v es i e c.loop-effect-test.true c.effect-item.is c.loop-effect.invariant.timed c.in_ok-effect_json.ensures.timed fit;
-      handled = λ fit. ap (each effect_of) c.in_ok-push.ensures.items ∙ fit_more anywhere effect_of vs v es i e c.loop-effect-test.true c.effect-item.is c.loop-effect.invariant.handled c.in_ok-effect_json.ensures.handled fit;
+      answers = λ fit. ap (each_of answer_effect) c.in_ok-push.ensures.items ∙ fit_more answering answer_effect vs v es i e c.loop-effect-test.true c.effect-item.is c.loop-effect.invariant.answers c.in_ok-effect_json.ensures.answers fit;
+      timed = λ fit. ap (each_of timed_effect) c.in_ok-push.ensures.items ∙ fit_more timed timed_effect vs v es i e c.loop-effect-test.true c.effect-item.is c.loop-effect.invariant.timed c.in_ok-effect_json.ensures.timed fit;
+      handled = λ fit. ap (each_of effect_of) c.in_ok-push.ensures.items ∙ fit_more anywhere effect_of vs v es i e c.loop-effect-test.true c.effect-item.is c.loop-effect.invariant.handled c.in_ok-effect_json.ensures.handled fit;
       whole = ap (λ (xs : List Json). items_are_whole (items_data xs)) c.in_ok-push.ensures.items ∙ items_more vs v c.loop-effect.invariant.whole c.in_ok-effect_json.ensures.whole;
     }
 

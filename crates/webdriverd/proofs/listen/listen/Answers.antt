@@ -1,5 +1,6 @@
-use Rattle.std.proofs.Common.{inr}
+use Rattle.std.proofs.Common.{inr, sym, ◌∙◌}
 use Rattle.std.specs.Str.{chars}
+use Rattle.webdriverd.proofs.CauseLemmas.{failed, went_well}
 use Rattle.webdriverd.proofs.HeadlineLemmas.{all_served_if, not_opened, only_opened, opened, unasked}
 use Rattle.webdriverd.proofs.listen.listen.Goals as goal
 
@@ -29,3 +30,12 @@ returns-in-Ok-false-clause-unasked g c = λ none. inr (unasked g.L.Line.makes c.
 
 pub returns-in-Err-clause-calls : goal.returns-in-Err-clause-calls
 returns-in-Err-clause-calls g c = only_opened g.L.Line.makes c.args.line.now c.open.new.self c.args.port c.args.connections c.open.ensures.made
+
+pub returns-then-is_err-clause-line_fault : goal.returns-then-is_err-clause-line_fault
+returns-then-is_err-clause-line_fault g c = λ five. failed (g.L.Line.refusals c.args.line.now) (g.L.Line.refusals c.open.new.self) c.open.result (sym c.is_err.ensures.value ∙ c.if-is_err.true) c.open.ensures.refusal
+
+pub returns-in-Ok-false-clause-line_kept : goal.returns-in-Ok-false-clause-line_kept
+returns-in-Ok-false-clause-line_kept g c = λ other. went_well (g.L.Line.refusals c.args.line.now) (g.L.Line.refusals c.open.new.self) c.open.result (sym c.is_err.ensures.value ∙ c.if-is_err.false) c.open.ensures.refusal
+
+pub returns-in-Err-clause-line_kept : goal.returns-in-Err-clause-line_kept
+returns-in-Err-clause-line_kept g c = λ other. went_well (g.L.Line.refusals c.args.line.now) (g.L.Line.refusals c.open.new.self) c.open.result (sym c.is_err.ensures.value ∙ c.if-is_err.false) c.open.ensures.refusal
