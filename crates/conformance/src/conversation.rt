@@ -6,7 +6,7 @@ use std::test::Fail;
 use timed::in_memory;
 use wd_http::{BytesList, CallList, ListClock, MemoryFiles, MemoryLine, MemorySink, TimeList};
 use wd_json::{WdBytes, WdText};
-use webdriverd::{NoScripts, webdriverd};
+use webdriverd::{Ended, NoScripts, webdriverd};
 
 /// What a run of the server left: its status, the bytes that were sent on the connections in order, how many
 /// readings were taken, and what was printed.
@@ -16,6 +16,39 @@ pub struct Outcome {
     pub sent: Vec<u8>,
     pub taken: usize,
     pub printed: Vec<u8>,
+}
+
+/// How many readings were taken, by a remote end that isn't spent.
+fn readings(rt: &impl Abort, ended: &Ended) -> usize {
+    match &ended.remote {
+        Some(remote) => {
+            assert!(rt; !remote.spent());
+            remote.taken().len()
+        }
+        None => 0,
+    }
+}
+
+/// The status of a run, and how many readings were taken.
+fn ended(
+    rt: &impl Abort,
+    alloc: Global,
+    words: &[WdText],
+    files: &mut MemoryFiles,
+    line: &mut MemoryLine,
+    out: &mut MemorySink,
+) -> (u8, usize) {
+    let ended = webdriverd(
+        alloc,
+        words,
+        7,
+        files,
+        line,
+        &mut ListClock::new(TimeList::new(alloc)),
+        &mut NoScripts,
+        out,
+    );
+    (ended.status, readings(rt, &ended))
 }
 
 /// As `run_over`, where there are no files.
@@ -55,29 +88,13 @@ pub fn run_over(
     }
     let mut line = MemoryLine::new(alloc, connections, fails, most);
     let mut out = MemorySink::new(alloc, CallList::new(alloc), most);
-    let ended = webdriverd(
-        alloc,
-        &texts,
-        7,
-        files,
-        &mut line,
-        &mut ListClock::new(TimeList::new(alloc)),
-        &mut NoScripts,
-        &mut out,
-    );
+    let (status, taken) = ended(rt, alloc, &texts, files, &mut line, &mut out);
     let mut sent = Vec::new(alloc);
     for place in 0..line.sent().len() {
         sent.extend_from_slice(line.sent().at(place).as_slice())?;
     }
-    let taken = match &ended.remote {
-        Some(remote) => {
-            assert!(rt; !remote.spent());
-            remote.taken().len()
-        }
-        None => 0,
-    };
     Ok(Outcome {
-        status: ended.status,
+        status,
         sent,
         taken,
         printed: Vec::from_slice(alloc, out.written().as_slice())?,

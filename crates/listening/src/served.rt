@@ -5,9 +5,9 @@ use std::alloc::Global;
 use std::process::Abort;
 use std::test::Fail;
 use timed::{W_JSON, W_SITE, in_memory};
-use wd_http::{BytesList, CallList, MemoryLine, MemorySink, VirtualClock};
+use wd_http::{BytesList, CallList, MemoryFiles, MemoryLine, MemorySink, VirtualClock};
 use wd_json::{WdBytes, WdText};
-use webdriverd::{NoScripts, webdriverd};
+use webdriverd::{Ended, NoScripts, webdriverd};
 
 /// The number of the call that fails of the line, of the files and of the sink; of none where it is 0.
 #[derive(Clone, Copy)]
@@ -54,6 +54,39 @@ fn requests(alloc: Global, connections: &[&[Exchange]]) -> Result<BytesList, Fai
     Ok(list)
 }
 
+/// How many readings were taken, by a remote end that isn't spent.
+fn readings(rt: &impl Abort, ended: &Ended) -> usize {
+    match &ended.remote {
+        Some(remote) => {
+            assert!(rt; !remote.spent());
+            remote.taken().len()
+        }
+        None => 0,
+    }
+}
+
+/// The status of a run, and how many readings were taken.
+fn ended(
+    rt: &impl Abort,
+    alloc: Global,
+    words: &[WdText],
+    files: &mut MemoryFiles,
+    line: &mut MemoryLine,
+    out: &mut MemorySink,
+) -> (u8, usize) {
+    let ended = webdriverd(
+        alloc,
+        words,
+        1,
+        files,
+        line,
+        &mut VirtualClock::new(),
+        &mut NoScripts,
+        out,
+    );
+    (ended.status, readings(rt, &ended))
+}
+
 /// Runs the server with these words as run 1 over the files of the worked site. On each connection the requests of its
 /// exchanges come. Reads and writes move at most `most` bytes.
 pub fn served(
@@ -82,29 +115,13 @@ pub fn served(
         most,
     );
     let mut out = MemorySink::new(alloc, calls(alloc, failing.sink)?, most);
-    let ended = webdriverd(
-        alloc,
-        &texts,
-        1,
-        &mut files,
-        &mut line,
-        &mut VirtualClock::new(),
-        &mut NoScripts,
-        &mut out,
-    );
+    let (status, taken) = ended(rt, alloc, &texts, &mut files, &mut line, &mut out);
     let mut sent = Vec::new(alloc);
     for place in 0..line.sent().len() {
         sent.extend_from_slice(line.sent().at(place).as_slice())?;
     }
-    let taken = match &ended.remote {
-        Some(remote) => {
-            assert!(rt; !remote.spent());
-            remote.taken().len()
-        }
-        None => 0,
-    };
     Ok(Outcome {
-        status: ended.status,
+        status,
         sent,
         taken,
         printed: Vec::from_slice(alloc, out.written().as_slice())?,
